@@ -1,0 +1,12 @@
+pub mod Below
+pub mod Bytes
+pub mod Complete
+pub mod Examples
+pub mod Fetched
+pub mod Formats
+pub mod Grows
+pub mod Immediates
+pub mod LowBits
+pub mod Sound
+pub mod Turns
+pub mod Walk

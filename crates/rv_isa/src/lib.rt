@@ -1,0 +1,21 @@
+//! The instructions of RV32IM, their words, and what a machine does that executes them.
+//!
+//! The rules are those of the RISC-V Instruction Set Manual, Volume I: Unprivileged ISA: the base RV32I
+//! and the extension M for multiplication and division.
+#![tactic(auto)]
+
+mod decoding;
+mod encoding;
+mod fields;
+mod laws;
+mod rv;
+#[cfg(test)]
+mod tests;
+
+pub use decoding::decode;
+pub use encoding::encode;
+pub use laws::{
+    a_stopped_machine_stays, a_write_is_read, an_encoded_instruction_decodes,
+    an_instruction_in_the_text_is_executed, output_only_grows, the_text_stays, worked_examples,
+};
+pub use rv::{Rv, X};
