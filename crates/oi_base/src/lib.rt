@@ -3,11 +3,13 @@
 
 mod error;
 mod ids;
+mod laws;
 mod steps;
 mod words;
 
 pub use error::NoMemory;
 pub use ids::{BlockId, FuncId, Place, RegId, SiteId};
+pub use laws::followers_chain;
 pub use sqlite_items::{Boxed, Items};
 pub use steps::Steps;
 pub use words::{Width, mask, sext};

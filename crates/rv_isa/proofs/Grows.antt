@@ -5,7 +5,8 @@ use Rattle.rv_isa.specs.declared.rv.Rv.{Rv}
 use Rattle.rv_isa.specs.Decode.{decode_of}
 use Rattle.rv_isa.specs.Memory.{Segments, Permission, Executable, Readable, Writable, read, write, touches_guard, is_permitted, is_aligned}
 use Rattle.rv_isa.specs.Isa.{Machine, Stop, Running, Exit, Access, Stack, Illegal, BadCall, Effect, Sets, Jumps, Branches, Loads, Stores, Continues, Calls, Breaks, effect, x, stopped, accessed, sets, got, called, applied, decoded, stepped, step}
-use Rattle.rv_isa.specs.Laws.{IsPrefix}
+use Rattle.oi_base.specs.Follows.{IsPrefix}
+use Rattle.oi_base.proofs.Chain.{prefix_trans}
 
 abbrev Grows : Machine → Machine → Type 0
 Grows m next = IsPrefix m.output next.output
@@ -59,9 +60,6 @@ stepped_grows s m (BadCall n) = same m
 step_grows : (s : Segments) (m : Machine) → Grows m (step s m)
 unfolding step
 step_grows s m = stepped_grows s m m.stop
-
-prefix_trans : (xs ys zs : List ℕ) → IsPrefix xs ys → IsPrefix ys zs → IsPrefix xs zs
-prefix_trans xs ys zs p q = (p.0 ++ q.0, sym (append_assoc xs p.0 q.0) ∙ ap (λ l. l ++ q.0) p.1 ∙ q.1)
 
 pub output_grows : (s : Segments) (m : Machine) (n : ℕ) → IsPrefix m.output (iterate (step s) n m).output
 output_grows s m zero = same m

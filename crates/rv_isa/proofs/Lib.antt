@@ -1,5 +1,6 @@
 pub mod Below
 pub mod Bytes
+pub mod Chain
 pub mod Complete
 pub mod Examples
 pub mod Fetched
@@ -8,5 +9,4 @@ pub mod Grows
 pub mod Immediates
 pub mod LowBits
 pub mod Sound
-pub mod Turns
 pub mod Walk

@@ -9,7 +9,7 @@ use Rattle.rv_isa.specs.Isa.{Machine, Running, step, executed, loaded, run}
 use Rattle.rv_isa.specs.Laws.{Kept, Stands}
 use Rattle.rv_isa.proofs.Bytes.{read_same}
 use Rattle.rv_isa.proofs.Fetched.{executes, text_stays}
-use Rattle.rv_isa.proofs.Turns.{iterate_more, iterate_rest}
+use Rattle.oi_base.proofs.Iterate.{iterate_more, iterate_rest}
 
 -- ---- instructions in the text
 

@@ -5,9 +5,6 @@ use Rattle.rv_isa.specs.Words.{word_of, InRange}
 use Rattle.rv_isa.specs.Memory.{Segments, read, in_text, bytes_at_load, guard_start}
 use Rattle.rv_isa.specs.Isa.{Machine}
 
-abbrev pub IsPrefix : List ℕ → List ℕ → Type 0
-IsPrefix xs ys = (rest : List ℕ) × (xs ++ rest ≡ ys)
-
 -- the text is as it was loaded
 abbrev pub Kept : Segments → Machine → Type 0
 Kept s m = (a : ℕ) → in_text s a 1 ≡ true → m.memory a ≡ bytes_at_load s a

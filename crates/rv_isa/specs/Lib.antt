@@ -4,4 +4,5 @@ pub mod Examples
 pub mod Isa
 pub mod Laws
 pub mod Memory
+pub mod Refines
 pub mod Words

@@ -39,6 +39,10 @@ stack_start = 0x7FEFF000
 abbrev pub stack_end : ℕ
 stack_end = 0x7FFFF000
 
+-- from its start to its end
+abbrev pub stack_size : ℕ
+stack_size = 0x100000
+
 -- n bytes from an address on lie between two addresses
 abbrev pub is_between : ℕ → ℕ → ℕ → ℕ → Bool
 is_between low high a n = nat_le low a && nat_le (a + n) high

@@ -8,7 +8,9 @@ ghost use Rattle.rv_isa.specs.Words.{word_of, InRange};
 ghost use Rattle.rv_isa.specs.Decode.{decode_of};
 ghost use Rattle.rv_isa.specs.declared.rv.Rv.{Rv};
 ghost use Rattle.rv_isa.specs.Examples.{WorkedRows, WorkedRuns};
-ghost use Rattle.rv_isa.specs.Laws.{IsPrefix, Stands};
+ghost use Rattle.oi_base.specs.Follows.{Seen, IsPrefix, Follows};
+ghost use Rattle.rv_isa.specs.Laws.{Stands};
+ghost use Rattle.rv_isa.specs.Refines.{Refines};
 
 /// The word of an instruction has 32 bits, and decodes to that instruction.
 #[tactic(auto, using(crate::proofs::Below::word_below, crate::proofs::Complete::decodes))]
@@ -54,4 +56,10 @@ pub fn the_text_stays()
 pub fn worked_examples()
     ensures rows { WorkedRows }
     ensures runs { WorkedRuns }
+{}
+
+/// An object that refines a follower of a run refines the run.
+#[tactic(auto, using(crate::proofs::Chain::refines_on))]
+pub fn an_object_of_a_follower_refines()
+    ensures { (largest : ℕ) (r s : ℕ → Seen) (o : ℕ → Machine) → Follows r s → Refines largest s o → Refines largest r o }
 {}

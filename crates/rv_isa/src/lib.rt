@@ -16,6 +16,7 @@ pub use decoding::decode;
 pub use encoding::encode;
 pub use laws::{
     a_stopped_machine_stays, a_write_is_read, an_encoded_instruction_decodes,
-    an_instruction_in_the_text_is_executed, output_only_grows, the_text_stays, worked_examples,
+    an_instruction_in_the_text_is_executed, an_object_of_a_follower_refines, output_only_grows,
+    the_text_stays, worked_examples,
 };
 pub use rv::{Rv, X};
