@@ -1,5 +1,5 @@
 -- Where each turn of a source is matched by turns of a target, each run is seen in the other.
-use Rattle.std.proofs.Common.{◌≡◌, ℕ, zero, suc, ◌+◌, ◌-◌, ◌<◌, ◌≤◌, ◌⊎◌, refl, subst, inl, inr, ⊎_elim, arith}
+use Rattle.std.proofs.Common.{ℕ, zero, suc, ◌+◌, ◌-◌, ◌<◌, ◌⊎◌, refl, subst, inl, inr, ⊎_elim, arith}
 use Rattle.std.specs.Fn.{iterate}
 use Rattle.std.proofs.lemmas.Bool.{cases_lt}
 use Rattle.oi_base.specs.Turns.{Turn, goes, breaks, stops}

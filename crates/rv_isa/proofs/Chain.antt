@@ -1,5 +1,5 @@
 -- An object that refines a follower refines the run itself; and a simulation makes an object refine a run.
-use Rattle.std.proofs.Common.{◌≡◌, ℕ, ◌+◌, ◌*◌, ◌≤◌, ◌<◌, ◌⊎◌, sym, ap, ◌∙◌, subst, inl, inr, ⊎_elim, arith}
+use Rattle.std.proofs.Common.{◌≡◌, ℕ, ◌*◌, ◌≤◌, ◌<◌, ◌⊎◌, sym, ◌∙◌, subst, inl, inr, ⊎_elim, arith}
 use Rattle.std.proofs.Math.Nat.{mul-le-mul_right}
 use Rattle.std.specs.Fn.{iterate}
 use Rattle.oi_base.specs.Turns.{Turn}
@@ -7,9 +7,9 @@ use Rattle.oi_base.specs.Follows.{Status, Going, Ended, Undefined, Stuck, Seen, 
 use Rattle.oi_base.specs.Follows as ir
 use Rattle.oi_base.proofs.Chain.{prefix_trans, not_undefined}
 use Rattle.oi_base.proofs.Simulation.{to_source, to_target}
-use Rattle.rv_isa.specs.Isa.{Machine, Stop, Running, Exit, Stack}
+use Rattle.rv_isa.specs.Isa.{Machine}
 use Rattle.rv_isa.specs.Memory.{stack_size}
-use Rattle.rv_isa.specs.Refines.{Same, both_go, both_end, Agrees, Breaks, Overflows, Refines}
+use Rattle.rv_isa.specs.Refines.{Same, Agrees, Breaks, Overflows, Refines}
 
 deeper : (largest d e : ℕ) → d ≤ e → stack_size < d * largest → stack_size < e * largest
 deeper largest d e h k = let more : d * largest ≤ e * largest = mul-le-mul_right largest h in omega arith

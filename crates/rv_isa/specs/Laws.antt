@@ -1,5 +1,5 @@
 -- What the laws of the machine speak of: what was put, and the instructions that stand in the text.
-use Rattle.std.specs.Prelude.{ℕ, ◌≡◌, ◌+◌, ◌%◌, ◌≤◌, true, List, [], ◌∷◌, ◌++◌}
+use Rattle.std.specs.Prelude.{ℕ, ◌≡◌, ◌+◌, ◌%◌, ◌≤◌, true, List, [], ◌∷◌}
 use Rattle.rv_isa.specs.declared.rv.Rv.{Rv}
 use Rattle.rv_isa.specs.Words.{word_of, InRange}
 use Rattle.rv_isa.specs.Memory.{Segments, read, in_text, bytes_at_load, guard_start}
