@@ -1,0 +1,9 @@
+pub mod AcyclicLemmas
+pub mod Capped
+pub mod Counts
+pub mod Fields
+pub mod Laying
+pub mod Layouts
+pub mod Measured
+pub mod Names
+pub mod RowExamples

@@ -1,0 +1,7 @@
+-- Sizes above the limit as one number.
+use Rattle.std.specs.Prelude.{ℕ, min}
+use Rattle.ir_core.specs.declared.layout.Layout.{Layout}
+
+-- a layout with a size above 16,777,216 written as 16,777,217
+abbrev pub capped : Layout → Layout
+capped l = record { size = min l.size 16777217; align = l.align }

@@ -1,0 +1,12 @@
+pub mod Acyclic
+pub mod Capped
+pub mod Flat
+pub mod Formed
+pub mod Known
+pub mod Memory
+pub mod Parts
+pub mod Proper
+pub mod Rows
+pub mod Sizes
+pub mod Weight
+pub mod Words

@@ -1,0 +1,23 @@
+ghost use Rattle.std.specs.Prelude.{◌≡◌, Bool, Some, IsTrue, Contains};
+ghost use Rattle.ir_core.specs.declared.ty.TypeName.{TypeName};
+ghost use Rattle.ir_core.specs.declared.ty.TypeDef.{TypeDef};
+ghost use Rattle.ir_core.specs.Sizes.{definition, IsLaid};
+ghost use Rattle.ir_core.specs.Parts.{names_in_type};
+ghost use Rattle.ir_core.specs.Acyclic.{HasNoVoid, HoldsItself, IsAcyclic};
+
+use crate::defs::TypeDefs;
+use crate::ty::IrType;
+
+/// A type has a layout where no `void` stands in it and its names are among some that are defined without `void`, by
+/// one another alone, and of which none leads back to itself. It does nothing: its contract is the law.
+pub fn acyclic_types_have_layouts(defs: &TypeDefs, t: &IrType)
+    ensures { (among : TypeName → Bool) → IsAcyclic defs.now among → HasNoVoid t.now → ((x : TypeName) → Contains (names_in_type t.now) x → IsTrue (among x)) → IsLaid defs.now t.now }
+{}
+
+/// In a type that has a layout no `void` stands, and each name in it is defined, by a type that has a layout, and doesn't
+/// lead back to itself. It does nothing: its contract is the law.
+pub fn types_with_layouts_are_acyclic(defs: &TypeDefs, t: &IrType)
+    ensures no_void { IsLaid defs.now t.now → HasNoVoid t.now }
+    ensures defined { IsLaid defs.now t.now → (x : TypeName) → Contains (names_in_type t.now) x → (d : TypeDef) × (definition defs.now x ≡ Some d) × IsLaid defs.now d.ty }
+    ensures no_cycle { IsLaid defs.now t.now → (x : TypeName) → Contains (names_in_type t.now) x → HoldsItself defs.now x → ⊥ }
+{}

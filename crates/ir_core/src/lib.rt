@@ -1,0 +1,35 @@
+//! A module of the accepted IR, its types' sizes and alignments, and flat bodies.
+#![tactic(auto)]
+
+mod constant;
+mod defs;
+mod flat;
+mod func;
+mod laws;
+mod layout;
+mod module;
+mod op;
+mod short;
+mod sizes;
+#[cfg(test)]
+mod tests;
+mod ty;
+mod weigh;
+
+pub use constant::{Const, Indices, TypedConst, TypedConsts, TypedCount};
+pub use defs::TypeDefs;
+pub use flat::{
+    Args, BinOp, Case, Cases, CastOp, Cmp, Entries, Entry, FlatBlock, FlatBlocks, FlatBody,
+    FlatCode, FlatEnd, FlatInstr, FlatOp, Phi, Phis, Scalar, Term, Terms,
+};
+pub use func::{Block, Blocks, Func, Funcs, Instr, Instrs, Param, Params};
+pub use laws::{acyclic_types_have_layouts, types_with_layouts_are_acyclic};
+pub use layout::LARGEST;
+pub use module::{Declaration, Declared, GlobalVar, Globals, Module, NamedTypes, SymId, Texts};
+pub use op::{
+    End, LocalId, Op, Operand, Pair, Pairs, SwitchCase, SwitchCases, TypedOperand, TypedOperands,
+};
+pub use short::Short;
+pub use sizes::{TypeTooLarge, align_of, field_offset, size_of};
+pub use ty::{IrType, TypeDef, TypeName, Types};
+pub use weigh::weight;

@@ -1,0 +1,11 @@
+pub mod Behind
+pub mod Fronts
+pub mod Gaps
+pub mod Numbers
+pub mod Passed
+pub mod ReadBack
+pub mod Solid
+pub mod Spelled
+pub mod Stops
+pub mod Total
+pub mod Unescaped
