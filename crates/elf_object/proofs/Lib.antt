@@ -1,0 +1,15 @@
+pub mod AgainLaws
+pub mod Checking
+pub mod Fielding
+pub mod FoundLaws
+pub mod Groups
+pub mod Holding
+pub mod LayoutLaws
+pub mod Places
+pub mod SizeLaws
+pub mod ReadLaws
+pub mod Sizing
+pub mod StringLaws
+pub mod SymbolLaws
+pub mod Symbols
+pub mod TableSteps

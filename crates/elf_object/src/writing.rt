@@ -1,0 +1,217 @@
+ghost use Rattle.std.specs.Prelude.{◌≡◌, ◌+◌, ◌≤◌, ◌<◌, ◌^◌, ◌++◌, List, length, not, count_by, fold, OnOk, IfOk};
+ghost use Rattle.elf_object.specs.Image.{string_table, symbol_table_size};
+ghost use Rattle.elf_object.specs.File.{padded, placed, loaded_parts, section_parts, sizes_of, first_global, info_of, section_of, entry, zero_entry, entries_bytes, symbol_table, header, segments, sections, elf};
+
+use crate::elf32::{Sym, put_fields};
+use crate::image::Image;
+use crate::layout::{
+    SECTION_NAMES, SEGMENTS_AT, Sizes, TEXT_AT, data_section, data_segment, executable,
+    null_section, shstrtab_section, strtab_section, symtab_section, text_section, text_segment,
+};
+use crate::symbol::{SymKind, Symbol};
+use oi_base::NoMemory;
+use std::alloc::Global;
+
+/// Zero bytes up to a place.
+fn pad_to(out: &mut Vec<u8>, place: u64) -> Result<(), NoMemory>
+    ensures { OnOk result (out.new.items ≡ padded place out.old.items) }
+{
+    let place = place as usize;
+    if out.len() < place {
+        out.resize(place, 0)?;
+    }
+    Ok(())
+}
+
+/// The bytes at their place.
+fn put_part(out: &mut Vec<u8>, place: u64, bytes: &[u8]) -> Result<(), NoMemory>
+    ensures { OnOk result (out.new.items ≡ padded place out.old.items ++ bytes.now) }
+{
+    pad_to(out, place)?;
+    out.extend_from_slice(bytes)?;
+    Ok(())
+}
+
+#[tactic(auto, unfolding(crate::specs::File::header))]
+fn put_header(out: &mut Vec<u8>, sizes: &Sizes) -> Result<(), NoMemory>
+    ensures { OnOk result (out.new.items ≡ out.old.items ++ header sizes.now) }
+{
+    put_fields(out, &executable(sizes.sections_at()).fields())
+}
+
+#[tactic(auto, unfolding(crate::specs::File::segments))]
+fn put_segments(out: &mut Vec<u8>, sizes: &Sizes) -> Result<(), NoMemory>
+    ensures { OnOk result (out.new.items ≡ out.old.items ++ segments sizes.now) }
+{
+    put_fields(out, &text_segment(sizes).fields())?;
+    put_fields(out, &data_segment(sizes).fields())
+}
+
+#[tactic(auto, unfolding(crate::specs::File::sections))]
+fn put_sections(out: &mut Vec<u8>, sizes: &Sizes, first_global: u64) -> Result<(), NoMemory>
+    ensures { OnOk result (out.new.items ≡ out.old.items ++ sections sizes.now first_global) }
+{
+    put_fields(out, &null_section().fields())?;
+    put_fields(out, &text_section(sizes).fields())?;
+    put_fields(out, &data_section(sizes).fields())?;
+    put_fields(out, &symtab_section(sizes, first_global).fields())?;
+    put_fields(out, &strtab_section(sizes).fields())?;
+    put_fields(out, &shstrtab_section(sizes).fields())
+}
+
+/// The type of a symbol, with its binding in the upper four bits.
+pub fn info_of(kind: SymKind, global: bool) -> u8
+    ensures { result ≡ info_of kind global }
+{
+    let symbol_type = match kind {
+        SymKind::Func => 2,
+        SymKind::Object => 1,
+    };
+    if global {
+        16 + symbol_type
+    } else {
+        symbol_type
+    }
+}
+
+/// The number of the section that a symbol of this kind stands in.
+pub fn section_of(kind: SymKind) -> u16
+    ensures { result ≡ section_of kind }
+{
+    match kind {
+        SymKind::Func => 1,
+        SymKind::Object => 2,
+    }
+}
+
+/// The entry of a symbol whose name is at this place of the string table.
+#[tactic(auto, unfolding(crate::specs::File::entry))]
+pub fn entry(name_at: u64, symbol: &Symbol) -> Sym
+    ensures { result ≡ entry name_at symbol.now }
+{
+    Sym {
+        st_name: name_at,
+        st_value: u64::from(symbol.value),
+        st_size: u64::from(symbol.size),
+        st_info: info_of(symbol.kind, symbol.global),
+        st_other: 0,
+        st_shndx: section_of(symbol.kind),
+    }
+}
+
+#[tactic(auto, unfolding(crate::specs::File::zero_entry))]
+pub fn zero_entry() -> Sym
+    ensures { result ≡ zero_entry }
+{
+    Sym {
+        st_name: 0,
+        st_value: 0,
+        st_size: 0,
+        st_info: 0,
+        st_other: 0,
+        st_shndx: 0,
+    }
+}
+
+fn put_entries(out: &mut Vec<u8>, symbols: &[Symbol]) -> Result<(), NoMemory>
+    requires { length (string_table symbols.now) < 2 ^ 64 }
+    ensures { OnOk result (out.new.items ≡ out.old.items ++ entries_bytes 1 symbols.now) }
+{
+    let mut name_at: u64 = 1;
+    for symbol in symbols {
+        put_fields(out, &entry(name_at, symbol).fields())?;
+        name_at += symbol.name.len() as u64 + 1;
+    }
+    Ok(())
+}
+
+#[tactic(auto, unfolding(crate::specs::File::symbol_table))]
+fn put_symbol_table(out: &mut Vec<u8>, symbols: &[Symbol]) -> Result<(), NoMemory>
+    requires { length (string_table symbols.now) < 2 ^ 64 }
+    ensures { OnOk result (out.new.items ≡ out.old.items ++ symbol_table symbols.now) }
+{
+    put_fields(out, &zero_entry().fields())?;
+    put_entries(out, symbols)
+}
+
+fn put_string_table(out: &mut Vec<u8>, symbols: &[Symbol]) -> Result<(), NoMemory>
+    ensures { OnOk result (out.new.items ≡ out.old.items ++ string_table symbols.now) }
+{
+    out.push(0)?;
+    for symbol in symbols {
+        out.extend_from_slice(symbol.name.as_slice())?;
+        out.push(0)?;
+    }
+    Ok(())
+}
+
+fn string_table_len(symbols: &[Symbol]) -> u32
+    requires { length (string_table symbols.now) < 2 ^ 32 }
+    ensures { result ≡ length (string_table symbols.now) }
+{
+    let mut len = 1;
+    for symbol in symbols {
+        len += symbol.name.len() as u32 + 1;
+    }
+    len
+}
+
+fn first_global(symbols: &[Symbol]) -> u64
+    requires { length symbols.now < 2 ^ 32 }
+    ensures { result ≡ first_global symbols.now }
+{
+    symbols.iter().filter(|symbol| !symbol.global).count() as u64 + 1
+}
+
+fn sizes_of(image: &Image) -> Sizes
+    ensures { result ≡ sizes_of image.now }
+{
+    let symbols = image.symbols.as_slice();
+    Sizes {
+        text: image.text.len() as u32,
+        data_bytes: image.data_bytes.len() as u32,
+        symtab: 16 * (symbols.len() as u32 + 1),
+        strtab: string_table_len(symbols),
+    }
+}
+
+#[tactic(auto, unfolding(crate::specs::File::loaded_parts))]
+fn put_loaded_parts(out: &mut Vec<u8>, sizes: &Sizes, image: &Image) -> Result<(), NoMemory>
+    ensures { OnOk result (out.new.items ≡ fold placed out.old.items (loaded_parts sizes.now image.now)) }
+{
+    pad_to(out, 0)?;
+    put_header(out, sizes)?;
+    pad_to(out, SEGMENTS_AT)?;
+    put_segments(out, sizes)?;
+    put_part(out, TEXT_AT, image.text.as_slice())?;
+    put_part(out, sizes.data_at(), image.data_bytes.as_slice())
+}
+
+#[tactic(auto, unfolding(crate::specs::File::section_parts, crate::specs::Layout::section_names))]
+fn put_section_parts(out: &mut Vec<u8>, sizes: &Sizes, image: &Image) -> Result<(), NoMemory>
+    ensures { OnOk result (out.new.items ≡ fold placed out.old.items (section_parts sizes.now image.now)) }
+{
+    let symbols = image.symbols.as_slice();
+    pad_to(out, sizes.symtab_at())?;
+    put_symbol_table(out, symbols)?;
+    pad_to(out, sizes.strtab_at())?;
+    put_string_table(out, symbols)?;
+    put_part(out, sizes.shstrtab_at(), SECTION_NAMES)?;
+    pad_to(out, sizes.sections_at())?;
+    put_sections(out, sizes, first_global(symbols))
+}
+
+/// The file of an image: an ELF32 executable for RISC-V ("Executable and Linking Format", version 1.2). The
+/// header and two program headers stand first. The text follows at 4096, the data at the next multiple of
+/// 4096, the symbol table at the next multiple of 4, the strings and the section names behind it, and the six
+/// section headers at the next multiple of 4, at the file's end. Bytes between the parts are zero.
+#[tactic(auto, unfolding(crate::specs::File::elf, crate::specs::File::loaded_parts, crate::specs::File::section_parts))]
+pub fn write_elf(alloc: Global, image: &Image) -> Result<Vec<u8>, NoMemory>
+    ensures { IfOk result (λ bytes. bytes.items ≡ elf image.now) }
+{
+    let sizes = sizes_of(image);
+    let mut out = Vec::new(alloc);
+    put_loaded_parts(&mut out, &sizes, image)?;
+    put_section_parts(&mut out, &sizes, image)?;
+    Ok(out)
+}

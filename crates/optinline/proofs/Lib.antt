@@ -1,0 +1,10 @@
+pub mod Appending
+pub mod Budget
+pub mod Causes
+pub mod Ended
+pub mod Lengths
+pub mod Limits
+pub mod Lines
+pub mod Numbered
+pub mod ReadingLaws
+pub mod Writes

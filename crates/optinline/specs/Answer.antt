@@ -1,0 +1,165 @@
+-- What a run answers, from its words and the files of its desk.
+use Rattle.std.specs.Prelude.{◌≡◌, ℕ, ◌<◌, ◌≤◌, ◌⊎◌, List, [], ◌∷◌, ◌++◌, length, take, decimal, nat_lt, MatchBool, Option, Some, None, Result, Ok, Err, codes, is_some}
+use Rattle.std.specs.FinMap as finite
+use Rattle.std.specs.String.{string_bytes}
+use Rattle.oi_world.specs.Desk.{Files}
+use Rattle.oi_world.specs.declared.desk.DeskFault.{DeskFault}
+use Rattle.oi_world.specs.declared.desk.DeskFault.TheVariants.{Failed, Absent, NoMemory}
+use Rattle.optinline.specs.declared.body.Body.{Body}
+use Rattle.optinline.specs.declared.reply.Reply.{Reply}
+use Rattle.optinline.specs.Lowering.{size, body_size}
+use Rattle.optinline.specs.Executable.{object}
+use Rattle.optinline.specs.Reading.{Reads}
+use Rattle.optinline.specs.Reply.{writes_of, after_writes, with_said, CutShort}
+use Rattle.optinline.specs.Words.{Words, command_of}
+
+-- ---- answers
+
+-- the status, the files that are written, in order, and the text that is said
+pub record Answer : Type 0 where
+  pub status : ℕ
+  pub writes : List (List ℕ × List ℕ)
+  pub said : List ℕ
+
+abbrev pub answer_of : Reply → Answer
+answer_of r = record { status = r.status; writes = writes_of r.writes.items; said = string_bytes r.said }
+
+-- an answer that writes nothing
+abbrev pub refusal : ℕ → List ℕ → Answer
+refusal status text = record { status = status; writes = []; said = text }
+
+-- how many bytes a module has at most
+abbrev pub module_limit : ℕ
+module_limit = 1048576
+
+-- the line of a build without candidate sites: the bytes of the text, and one node of the search
+abbrev pub summary : ℕ → List ℕ
+summary text = codes "text " ++ decimal text ++ codes " candidates 0 inlined 0 nodes 1\n"
+
+unfoldable pub heading : ℕ → List ℕ
+heading text = codes "certificate 1\ntext " ++ decimal text ++ codes "\n"
+
+unfoldable pub leaf : ℕ → List ℕ
+leaf part = codes "tree\nL " ++ decimal part ++ codes "\n"
+
+-- The certificate of a module without candidate sites: the bytes of its text, no decisions, and a tree of one leaf,
+-- which states the bytes of the functions' codes.
+abbrev pub certificate : Body → List ℕ
+certificate b = heading (size b) ++ leaf (body_size b)
+
+-- the answer to a build of this `main`: there are no candidate sites, so there are no decisions
+unfoldable pub built : Words → Body → Answer
+built words b = record {
+  status = 0;
+  writes = (words.object, object b) ∷ (words.decisions, []) ∷ (words.cert, certificate b) ∷ [];
+  said = summary (size b);
+}
+
+-- ---- which answer a run has
+
+-- the answer where the module has these bytes
+pub data IsModuleAnswer (words : Words) (bytes : List ℕ) (a : Answer) : Type 0 where
+  left_out : ((b : Body) → Reads bytes b → ⊥) → a ≡ refusal 4 (codes "module 1:1 left out\n") → IsModuleAnswer words bytes a
+  accepted : (b : Body) → Reads bytes b → a ≡ built words b → IsModuleAnswer words bytes a
+
+-- the answer where the file of the module has these bytes, or isn't there
+abbrev pub IsFileAnswer : Words → Option (List ℕ) → Answer → Type 0
+IsFileAnswer words None a = a ≡ refusal 18 (codes "absent " ++ words.«module» ++ codes "\n")
+IsFileAnswer words (Some bytes) a =
+    MatchBool (nat_lt module_limit (length bytes)) (a ≡ refusal 9 (codes "too long " ++ words.«module» ++ codes "\n")) (IsModuleAnswer words bytes a)
+
+abbrev pub IsCommandAnswer : Option Words → Files → Answer → Type 0
+IsCommandAnswer None files a = a ≡ refusal 2 (codes "words\n")
+IsCommandAnswer (Some words) files a = IsFileAnswer words (finite.get files words.«module») a
+
+-- the answer to these words on a desk with these files
+abbrev pub IsAnswer : List (List ℕ) → Files → Answer → Type 0
+IsAnswer words files a = IsCommandAnswer (command_of words) files a
+
+-- ---- causes
+
+-- the words are a build, and the module isn't there
+pub record IsAbsent (words : List (List ℕ)) (files : Files) : Type 0 where
+  pub build : Words
+  pub command : command_of words ≡ Some build
+  pub file : finite.get files build.«module» ≡ None
+
+-- the words are a build of a module of more bytes than the limit
+pub record IsTooLong (words : List (List ℕ)) (files : Files) : Type 0 where
+  pub build : Words
+  pub bytes : List ℕ
+  pub command : command_of words ≡ Some build
+  pub file : finite.get files build.«module» ≡ Some bytes
+  pub long : module_limit < length bytes
+
+-- the words are a build of a module within the limit that is not in the accepted text
+pub record IsLeftOut (words : List (List ℕ)) (files : Files) : Type 0 where
+  pub build : Words
+  pub bytes : List ℕ
+  pub command : command_of words ≡ Some build
+  pub file : finite.get files build.«module» ≡ Some bytes
+  pub short : length bytes ≤ module_limit
+  pub none : (b : Body) → Reads bytes b → ⊥
+
+-- the words are a build of a module within the limit that is in the accepted text
+pub record IsAccepted (words : List (List ℕ)) (files : Files) : Type 0 where
+  pub build : Words
+  pub bytes : List ℕ
+  pub main : Body
+  pub command : command_of words ≡ Some build
+  pub file : finite.get files build.«module» ≡ Some bytes
+  pub short : length bytes ≤ module_limit
+  pub read : Reads bytes main
+
+abbrev pub Iff : Type 0 → Type 0 → Type 0
+Iff p q = (p → q) × (q → p)
+
+-- each status has its cause
+pub record HasCauses (words : List (List ℕ)) (files : Files) (status : ℕ) : Type 0 where
+  pub no_command : Iff (status ≡ 2) (command_of words ≡ None)
+  pub absent : Iff (status ≡ 18) (IsAbsent words files)
+  pub too_long : Iff (status ≡ 9) (IsTooLong words files)
+  pub left_out : Iff (status ≡ 4) (IsLeftOut words files)
+  pub accepted : Iff (status ≡ 0) (IsAccepted words files)
+
+-- the statuses of an answer to a build, and of an answer
+abbrev pub IsBuildStatus : ℕ → Type 0
+IsBuildStatus n = (n ≡ 0) ⊎ ((n ≡ 4) ⊎ ((n ≡ 9) ⊎ (n ≡ 18)))
+
+abbrev pub IsStatus : ℕ → Type 0
+IsStatus n = (n ≡ 2) ⊎ IsBuildStatus n
+
+-- ---- what a run leaves
+
+-- this status, with the whole answer
+abbrev pub Answered : Answer → ℕ → Option Files → Option Files → Option (List ℕ) → Option (List ℕ) → Type 0
+Answered a status files files' said said' = (status ≡ a.status) × (files' ≡ after_writes a.writes files) × (said' ≡ with_said a.said said)
+
+-- A failure of the desk ended the run: between two writes, in one, or in saying. What a failed write's name holds is
+-- not known, nor what was said after a failure to say.
+pub data Interrupted (a : Answer) (files files' : Option Files) (said said' : Option (List ℕ)) : Type 0 where
+  between : (at : ℕ) → at ≤ length a.writes → files' ≡ after_writes (take at a.writes) files → said' ≡ said → Interrupted a files files' said said'
+  writing : CutShort a.writes files files' Failed → said' ≡ said → Interrupted a files files' said said'
+  saying : files' ≡ after_writes a.writes files → is_some said' ≡ is_some said → Interrupted a files files' said said'
+
+-- Want of memory ended the run: the writes before some place of the answer's were made, and nothing was said.
+abbrev pub Fronted : Answer → Option Files → Option Files → Option (List ℕ) → Option (List ℕ) → Type 0
+Fronted a files files' said said' = (at : ℕ) × (at ≤ length a.writes) × (files' ≡ after_writes (take at a.writes) files) × (said' ≡ said)
+
+-- what carrying an answer out leaves
+abbrev pub Leaves : {T : Type 0} → Answer → Option Files → Option Files → Option (List ℕ) → Option (List ℕ) → Result T DeskFault → Type 0
+Leaves a files files' said said' (Ok x) = (files' ≡ after_writes a.writes files) × (said' ≡ with_said a.said said)
+Leaves a files files' said said' (Err Failed) = Interrupted a files files' said said'
+Leaves a files files' said said' (Err Absent) = ⊥
+Leaves a files files' said said' (Err NoMemory) = Fronted a files files' said said'
+
+-- nothing was written and nothing said
+abbrev pub IsUntouched : Option Files → Option Files → Option (List ℕ) → Option (List ℕ) → Type 0
+IsUntouched files files' said said' = (files' ≡ files) × (said' ≡ said)
+
+-- what a run leaves: its answer; or, where it ended early, nothing or what was carried out of its answer
+abbrev pub Runs : List (List ℕ) → Files → Option Files → Option Files → Option (List ℕ) → Option (List ℕ) → Result ℕ DeskFault → Type 0
+Runs words on files files' said said' (Ok status) = (a : Answer) × IsAnswer words on a × Answered a status files files' said said'
+Runs words on files files' said said' (Err Failed) = IsUntouched files files' said said' ⊎ ((a : Answer) × IsAnswer words on a × Interrupted a files files' said said')
+Runs words on files files' said said' (Err Absent) = ⊥
+Runs words on files files' said said' (Err NoMemory) = IsUntouched files files' said said' ⊎ ((a : Answer) × IsAnswer words on a × Fronted a files files' said said')

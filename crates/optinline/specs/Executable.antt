@@ -1,0 +1,51 @@
+-- The image of an executable: the start stub, the functions behind it, and their symbols.
+use Rattle.std.specs.Prelude.{ℕ, ◌+◌, ◌*◌, Bool, true, not, List, [], ◌∷◌, ◌++◌, length, filter, codes}
+use Rattle.std.specs.List.{flat_map}
+use Rattle.std.specs.Int.{w32, to_le_bytes}
+use Rattle.rv_isa.specs.declared.rv.Rv.{Rv}
+use Rattle.rv_isa.specs.Words.{word_of}
+use Rattle.elf_object.specs.Image.{Parts}
+use Rattle.elf_object.specs.File.{elf}
+use Rattle.elf_object.specs.declared.symbol.Symbol.{Symbol}
+use Rattle.elf_object.specs.declared.symbol.SymKind.TheVariants.{Func}
+use Rattle.optinline.specs.declared.body.Body.{Body}
+use Rattle.optinline.specs.Lowering.{stub, main_code}
+
+-- a function of the text: its name, whether other modules see it, and its code
+pub record Function : Type 0 where
+  pub name : List ℕ
+  pub global : Bool
+  pub code : List Rv
+
+-- the bytes of a code: its words, each with the lowest byte first
+abbrev pub bytes_of : List Rv → List ℕ
+bytes_of code = flat_map (λ i. to_le_bytes w32 (word_of i)) code
+
+-- the codes one behind another
+abbrev pub codes_of : List Function → List Rv
+codes_of functions = flat_map (λ f. f.code) functions
+
+-- the symbols of functions that stand one behind another from this address on
+abbrev pub symbols_from : ℕ → List Function → List Symbol
+symbols_from address [] = []
+symbols_from address (f ∷ fs) =
+    record { name = f.name; value = address; size = 4 * length f.code; kind = Func; global = f.global } ∷ symbols_from (address + 4 * length f.code) fs
+
+-- local symbols before global ones, each kind in its order
+abbrev pub local_first : List Symbol → List Symbol
+local_first symbols = filter (λ s. not s.global) symbols ++ filter (λ s. s.global) symbols
+
+-- the image of these functions, with `main` at this distance from the stub, which stands at 0x10000; there are no data
+unfoldable pub image : ℕ → List Function → Parts
+image distance functions = record {
+  text = bytes_of (stub distance ++ codes_of functions);
+  data_bytes = [];
+  symbols = local_first (symbols_from (65536 + 4 * length (stub distance)) functions);
+}
+
+abbrev pub main_function : Body → Function
+main_function b = record { name = codes "main"; global = true; code = main_code b }
+
+-- the file of the executable of `main`
+abbrev pub object : Body → List ℕ
+object b = elf (image 16 (main_function b ∷ []))

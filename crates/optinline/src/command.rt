@@ -1,0 +1,120 @@
+ghost use Rattle.std.specs.Prelude.{◌≡◌, ◌≢◌, ◌<◌, ◌↔◌, ◌⊎◌, IsErrOf, IfOk, IfSome, None, []};
+ghost use Rattle.std.specs.Option.{option_map};
+ghost use Rattle.oi_world.specs.Desk.{HasCause, read_of};
+ghost use Rattle.oi_world.specs.declared.desk.DeskFault.TheVariants.{Absent};
+ghost use Rattle.optinline.specs.Words.{texts_of, command_of};
+ghost use Rattle.optinline.specs.Answer.{Answer, answer_of, IsAnswer, HasCauses, IsAbsent, IsTooLong, IsLeftOut, IsAccepted, IsStatus, IsUntouched, Answered, Interrupted, Fronted, Leaves, Runs};
+
+use crate::answer::{MODULE_LIMIT, build_reply, refuse};
+use crate::reply::{Reply, write_all};
+use crate::words::command;
+use oi_world::{Desk, DeskFault};
+use std::alloc::Global;
+
+/// What a file holds, up to one byte past the limit; `None` where it isn't there.
+fn read_file<D: Desk>(
+    alloc: Global,
+    desk: &mut D,
+    name: &str,
+    limit: u32,
+) -> Result<Option<Vec<u8>>, DeskFault>
+    requires { D.faults desk.old < 18446744073709551615 }
+    ensures found { IfOk result (λ file. IfSome (D.files desk.old) (λ files. option_map (λ v. v.items) file ≡ read_of files name.now limit)) }
+    ensures present { IsErrOf result Absent → ⊥ }
+    ensures files { D.files desk.new ≡ D.files desk.old }
+    ensures said { D.said desk.new ≡ D.said desk.old }
+    ensures cause { HasCause (D.faults desk.old) (D.faults desk.new) result }
+{
+    match desk.read(alloc, name, limit) {
+        Ok(bytes) => Ok(Some(bytes)),
+        Err(DeskFault::Absent) => Ok(None),
+        Err(fault) => Err(fault),
+    }
+}
+
+/// What the words answer. It reads the files that they name, and changes none.
+fn reply<D: Desk>(alloc: Global, words: &[String], desk: &mut D) -> Result<Reply, DeskFault>
+    requires { D.faults desk.old < 18446744073709551615 }
+    ensures answer { IfOk result (λ r. IfSome (D.files desk.old) (λ files. IsAnswer (texts_of words.now) files (answer_of r))) }
+    ensures words { IfOk result (λ r. (r.status ≡ 2) ↔ (command_of (texts_of words.now) ≡ None)) }
+    ensures status { IfOk result (λ r. IsStatus r.status) }
+    ensures quiet { IfOk result (λ r. r.status ≢ 0 → r.writes.items ≡ []) }
+    ensures present { IsErrOf result Absent → ⊥ }
+    ensures files { D.files desk.new ≡ D.files desk.old }
+    ensures said { D.said desk.new ≡ D.said desk.old }
+    ensures cause { HasCause (D.faults desk.old) (D.faults desk.new) result }
+{
+    let Some(build) = command(words) else {
+        return Ok(refuse(alloc, 2, String::from_str(alloc, "words\n")?));
+    };
+    let file = read_file(alloc, desk, build.module, MODULE_LIMIT)?;
+    Ok(build_reply(alloc, &build, file)?)
+}
+
+/// Writes the files of an answer, in order, and then says its text.
+fn carry_out<D: Desk>(desk: &mut D, reply: &Reply) -> Result<(), DeskFault>
+    requires { D.faults desk.old < 18446744073709551615 }
+    ensures leaves { Leaves (answer_of reply.now) (D.files desk.old) (D.files desk.new) (D.said desk.old) (D.said desk.new) result }
+    ensures cause { HasCause (D.faults desk.old) (D.faults desk.new) result }
+{
+    write_all(desk, reply.writes.as_slice())?;
+    desk.say(reply.said.as_bytes())
+}
+
+/// Runs a command. Its answer is known before the first file is written.
+fn run<D: Desk>(alloc: Global, words: &[String], desk: &mut D) -> Result<u8, DeskFault>
+    requires { D.faults desk.old < 18446744073709551615 }
+    ensures runs { IfSome (D.files desk.old) (λ files. Runs (texts_of words.now) files (D.files desk.old) (D.files desk.new) (D.said desk.old) (D.said desk.new) result) }
+    ensures causes { IfOk result (λ status. IfSome (D.files desk.old) (λ files. HasCauses (texts_of words.now) files status)) }
+    ensures words { IfOk result (λ status. (status ≡ 2) ↔ (command_of (texts_of words.now) ≡ None)) }
+    ensures status { IfOk result (λ status. IsStatus status) }
+    ensures no_end { IfOk result (λ status. (status ≢ 3) × (status ≢ 12)) }
+    ensures quiet { IfOk result (λ status. status ≢ 0 → D.files desk.new ≡ D.files desk.old) }
+    ensures present { IsErrOf result Absent → ⊥ }
+    ensures cause { HasCause (D.faults desk.old) (D.faults desk.new) result }
+{
+    let reply = reply(alloc, words, desk)?;
+    carry_out(desk, &reply)?;
+    Ok(reply.status)
+}
+
+/// Runs the command that these words are, over this desk, and answers its status.
+///
+/// The one command so far is `build MODULE OBJECT DECISIONS CERT BUDGET`. Statuses are 0 (done), 2 (the words are no
+/// command), 18 (the module isn't there), 9 (it is too long), 4 (it is left out), 3 (the desk failed) and 12 (want of
+/// memory).
+pub fn tool<D: Desk>(alloc: Global, words: &[String], desk: &mut D) -> u8
+    requires { D.faults desk.old < 18446744073709551615 }
+
+    // Where no call of the desk failed and memory was found, the run is answered whole.
+    ensures answered { result ≢ 3 → result ≢ 12 → IfSome (D.files desk.old) (λ files.
+        (a : Answer) × IsAnswer (texts_of words.now) files a × Answered a result (D.files desk.old) (D.files desk.new) (D.said desk.old) (D.said desk.new)) }
+
+    // Each status comes exactly where its cause holds.
+    ensures words { result ≢ 3 → result ≢ 12 → (result ≡ 2) ↔ (command_of (texts_of words.now) ≡ None) }
+    ensures failed { (result ≡ 3) ↔ (D.faults desk.old < D.faults desk.new) }
+    ensures absent { result ≢ 3 → result ≢ 12 → IfSome (D.files desk.old) (λ files. (result ≡ 18) ↔ IsAbsent (texts_of words.now) files) }
+    ensures too_long { result ≢ 3 → result ≢ 12 → IfSome (D.files desk.old) (λ files. (result ≡ 9) ↔ IsTooLong (texts_of words.now) files) }
+    ensures left_out { result ≢ 3 → result ≢ 12 → IfSome (D.files desk.old) (λ files. (result ≡ 4) ↔ IsLeftOut (texts_of words.now) files) }
+    ensures done { result ≢ 3 → result ≢ 12 → IfSome (D.files desk.old) (λ files. (result ≡ 0) ↔ IsAccepted (texts_of words.now) files) }
+    ensures statuses { IsStatus result ⊎ ((result ≡ 3) ⊎ (result ≡ 12)) }
+
+    // A build of an accepted module is done, unless the desk fails or memory runs out.
+    ensures complete { IfSome (D.files desk.old) (λ files. IsAccepted (texts_of words.now) files → D.faults desk.new ≡ D.faults desk.old → (result ≡ 0) ⊎ (result ≡ 12)) }
+
+    // After another status than 0, 3 and 12 all files are as before. A run that ended early has done nothing, or a
+    // front of its answer's writes, and has said nothing; what a failed call left is not known.
+    ensures untouched { result ≢ 0 → result ≢ 3 → result ≢ 12 → D.files desk.new ≡ D.files desk.old }
+    ensures interrupted { result ≡ 3 → IfSome (D.files desk.old) (λ files.
+        IsUntouched (D.files desk.old) (D.files desk.new) (D.said desk.old) (D.said desk.new)
+        ⊎ ((a : Answer) × IsAnswer (texts_of words.now) files a × Interrupted a (D.files desk.old) (D.files desk.new) (D.said desk.old) (D.said desk.new))) }
+    ensures no_memory { result ≡ 12 → IfSome (D.files desk.old) (λ files.
+        IsUntouched (D.files desk.old) (D.files desk.new) (D.said desk.old) (D.said desk.new)
+        ⊎ ((a : Answer) × IsAnswer (texts_of words.now) files a × Fronted a (D.files desk.old) (D.files desk.new) (D.said desk.old) (D.said desk.new))) }
+{
+    match run(alloc, words, desk) {
+        Ok(status) => status,
+        Err(DeskFault::NoMemory) => 12,
+        Err(_) => 3,
+    }
+}
