@@ -1,5 +1,5 @@
 -- Counting the elements of a list that pass one test and those that pass a wider one.
-use Rattle.std.proofs.Common.{◌≡◌, ℕ, ◌+◌, ◌<◌, ◌≤◌, zero, suc, Bool, true, false, List, [], ◌∷◌, length, Option, Some, None, cond, refl, sym, ap, ◌∙◌, arith}
+use Rattle.std.proofs.Common.{◌≡◌, ℕ, ◌+◌, ◌≤◌, zero, suc, Bool, true, false, List, [], ◌∷◌, length, Some, cond, refl, arith}
 use Rattle.std.specs.List.{slice_get}
 
 -- how many elements pass a test

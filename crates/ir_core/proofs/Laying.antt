@@ -1,5 +1,5 @@
 -- Laying one name after the other gives right layouts, and where nothing more can be laid, all that there are.
-use Rattle.std.proofs.Common.{◌≡◌, ◌≢◌, ◌⊎◌, inl, inr, ℕ, ◌+◌, ◌<◌, ◌≤◌, zero, suc, Bool, true, false, List, [], ◌∷◌, length, cond, Option, Some, None, slice_index_or, slice_set, refl, sym, ap, ◌∙◌, arith}
+use Rattle.std.proofs.Common.{◌≡◌, ◌⊎◌, inl, inr, ℕ, ◌+◌, ◌<◌, zero, suc, List, [], ◌∷◌, length, cond, Option, Some, None, slice_set, refl, sym, ap, ◌∙◌, arith}
 use Rattle.std.specs.Prelude.{is_some}
 use Rattle.std.specs.List.{position_from, slice_get}
 use Rattle.std.specs.Option.{option_map, option_and_then}
@@ -11,11 +11,10 @@ use Rattle.ir_core.specs.declared.layout.Name.{Name}
 use Rattle.ir_core.specs.declared.layout.Name.TheVariants.{Undefined, Defined, Laid}
 use Rattle.ir_core.specs.declared.ty.TypeName.{TypeName}
 use Rattle.ir_core.specs.declared.ty.TypeDef.{TypeDef}
-use Rattle.ir_core.specs.declared.ty.IrType.{IrType}
 use Rattle.ir_core.specs.Capped.{capped}
 use Rattle.ir_core.specs.Sizes.{layout_by, is_named, definition, name_layout}
-use Rattle.ir_core.specs.Known.{name_at, position_in, layout_in, known, Knows, HasPositions, IsRight, so_far, IsStuck, unlaid, Describes}
-use Rattle.ir_core.proofs.Names.{Within, within_type, within_then, named_at, settled}
+use Rattle.ir_core.specs.Known.{name_at, position_in, layout_in, known, Knows, IsRight, so_far, IsStuck, unlaid, Describes}
+use Rattle.ir_core.proofs.Names.{Within, within_type, within_then, settled}
 
 module _ (table : List Name) (defs : List TypeDef) (right : IsRight table defs) where
   within_all : Within (so_far table defs) (name_layout (length defs) defs)

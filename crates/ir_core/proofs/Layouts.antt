@@ -1,5 +1,5 @@
 -- Each step of the way through a type gives the capped layout of what was gone through.
-use Rattle.std.proofs.Common.{◌≡◌, ℕ, ◌+◌, ◌*◌, ◌<◌, ◌≤◌, min, max, zero, suc, List, [], ◌∷◌, length, drop, map, Option, Some, None, refl, sym, ap, ◌∙◌, arith}
+use Rattle.std.proofs.Common.{◌≡◌, ℕ, min, List, ◌∷◌, map, Option, Some, None, refl, sym, ap, ◌∙◌, arith}
 use Rattle.std.specs.Option.{option_map}
 use Rattle.ir_core.specs.declared.layout.Layout.{Layout}
 use Rattle.ir_core.specs.declared.ty.TypeName.{TypeName}
@@ -8,7 +8,7 @@ use Rattle.ir_core.specs.declared.ty.IrType.TheBlock.{hidden-the_row-IrType-1}
 use Rattle.ir_core.specs.declared.ty.IrType.TheVariants as types
 use Rattle.ir_core.specs.Capped.{capped}
 use Rattle.ir_core.specs.Sizes.{array_of, empty, behind, rounded, placed, layout_by, field_layouts}
-use Rattle.ir_core.proofs.Capped.{capped-behind, capped-behind_capped, capped-rounded, capped-array_of, capped-placed}
+use Rattle.ir_core.proofs.Capped.{capped-behind_capped, capped-rounded, capped-array_of, capped-placed}
 
 pub at_array : (names : TypeName → Option Layout) (n : ℕ) (item : IrType) → layout_by names (types.Array n item) ≡ option_map (array_of n) (layout_by names item)
 unfolding Rattle.ir_core.specs.declared.ty.IrType.TheBlock.hidden-the_row-IrType-0 denote.Hole.Carrier.hidden

@@ -1,9 +1,7 @@
 -- What the capped layout of a type says of its size, its alignment and its fields' places.
-use Rattle.std.proofs.Common.{◌≡◌, ℕ, ◌+◌, ◌<◌, ◌≤◌, min, zero, suc, List, [], ◌∷◌, length, take, map, Option, Some, None, refl, sym, ap, ◌∙◌, arith}
+use Rattle.std.proofs.Common.{◌≡◌, min, List, length, Option, Some, None, refl, ap, ◌∙◌}
 use Rattle.std.specs.Prelude.{IsSome, is_some, IsTrue, ◌↔◌, Bool, unwrap_or}
-use Rattle.std.specs.List.{slice_get}
-use Rattle.std.specs.Int.{next_multiple_of}
-use Rattle.std.specs.Option.{option_map, option_map_or, option_and_then}
+use Rattle.std.specs.Option.{option_map}
 use Rattle.ir_core.specs.declared.layout.Layout.{Layout}
 use Rattle.ir_core.specs.declared.layout.Name.{Name}
 use Rattle.ir_core.specs.declared.ty.TypeName.{TypeName}

@@ -1,5 +1,5 @@
 -- Rows and runs worked out on examples.
-use Rattle.std.proofs.Common.{◌≡◌, ℕ, List, [], ◌∷◌, Option, Some, None, refl}
+use Rattle.std.proofs.Common.{◌≡◌, [], ◌∷◌, Some, None, refl}
 use Rattle.oi_base.specs.declared.words.Width.TheVariants.{W1, W8, W16, W32}
 use Rattle.ir_core.specs.declared.flat.BinOp.TheVariants.{Udiv, Sdiv, Srem, Shl, Ashr, Sub}
 use Rattle.ir_core.specs.declared.flat.Cmp.TheVariants.{Eq, Ne, Ult}
@@ -9,10 +9,10 @@ use Rattle.ir_core.specs.declared.flat.FlatOp.TheVariants as operand
 use Rattle.ir_core.specs.declared.flat.FlatInstr.TheVariants as instr
 use Rattle.ir_core.specs.declared.flat.FlatEnd.TheVariants as ends
 use Rattle.ir_core.specs.declared.flat.FlatBody.{FlatBody}
-use Rattle.ir_core.specs.Words.{Outcome, Known, NoWord, NoMeaning, word_op, word_cast}
-use Rattle.ir_core.specs.Memory.{Value, Bits, At, Nowhere, Poisoned, Byte, Unset, PoisonByte, Octet, PartOf, Memory, loaded, load, store, fresh}
-use Rattle.ir_core.specs.Rows.{Answer, Gives, NoGood, Mistyped, bin, icmp, moved, scaled}
-use Rattle.oi_base.specs.Follows.{Status, Going, Ended, Undefined, Stuck, Seen}
+use Rattle.ir_core.specs.Words.{Known, NoWord, NoMeaning, word_op, word_cast}
+use Rattle.ir_core.specs.Memory.{Bits, At, Nowhere, Poisoned, Unset, Octet, PartOf, loaded, load, fresh}
+use Rattle.ir_core.specs.Rows.{Gives, NoGood, bin, icmp, moved, scaled}
+use Rattle.oi_base.specs.Follows.{Going, Ended}
 use Rattle.ir_core.specs.Flat.{Program, flat_step, flat_run}
 
 least_by_minus_one : word_op Sdiv W32 2147483648 4294967295 ≡ NoMeaning

@@ -1,5 +1,5 @@
 -- Which types have layouts: those whose type names are defined, lead to no `void`, and never back to themselves.
-use Rattle.std.specs.Prelude.{◌≡◌, Bool, List, [], ◌∷◌, Option, Some, None, IsTrue, Contains, ⊤}
+use Rattle.std.specs.Prelude.{◌≡◌, Bool, List, [], ◌∷◌, Some, IsTrue, Contains, ⊤}
 use Rattle.ir_core.specs.declared.ty.TypeName.{TypeName}
 use Rattle.ir_core.specs.declared.ty.TypeDef.{TypeDef}
 use Rattle.ir_core.specs.declared.ty.IrType.{IrType, Void, Int, Ptr, Array', Struct', Named, Row_of-IrType, end_of-IrType, more_of-IrType}

@@ -1,5 +1,5 @@
 -- Sizes above the limit as one number.
-use Rattle.std.specs.Prelude.{ℕ, min}
+use Rattle.std.specs.Prelude.{min}
 use Rattle.ir_core.specs.declared.layout.Layout.{Layout}
 
 -- a layout with a size above 16,777,216 written as 16,777,217

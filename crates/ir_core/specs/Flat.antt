@@ -1,10 +1,7 @@
 -- Runs of flat bodies.
-use Rattle.std.specs.Prelude.{ℕ, zero, suc, ◌+◌, ◌-◌, ◌*◌, ◌/◌, ◌%◌, Bool, true, false, not, ◌&&◌, nat_eq, nat_le, nat_lt, if◌then◌else◌, List, [], ◌∷◌, ◌++◌, length, Option, Some, None, slice_get}
-use Rattle.oi_base.specs.declared.words.Width.{Width}
-use Rattle.oi_base.specs.declared.words.Width.TheVariants.{W1, W8, W16, W32}
+use Rattle.std.specs.Prelude.{ℕ, ◌+◌, ◌%◌, Bool, true, false, nat_eq, if◌then◌else◌, List, [], ◌∷◌, ◌++◌, length, Option, Some, None, slice_get}
 use Rattle.oi_base.specs.declared.ids.RegId.{RegId}
 use Rattle.oi_base.specs.declared.ids.BlockId.{BlockId}
-use Rattle.oi_base.specs.declared.ids.FuncId.{FuncId}
 use Rattle.ir_core.specs.declared.flat.FlatOp.{FlatOp}
 use Rattle.ir_core.specs.declared.flat.FlatOp.TheVariants.{Reg, Word, Null, Address, Poison}
 use Rattle.ir_core.specs.declared.flat.Term.{Term}
@@ -20,7 +17,7 @@ use Rattle.ir_core.specs.declared.flat.FlatBody.{FlatBody}
 use Rattle.std.specs.Fn.{iterate}
 use Rattle.oi_base.specs.Follows.{Status, Going, Ended, Undefined, Stuck, Seen}
 use Rattle.oi_base.specs.Words.{modulus}
-use Rattle.ir_core.specs.Memory.{Value, Bits, At, Nowhere, Poisoned, Block, Memory, load, store, fresh, kill, kill_all}
+use Rattle.ir_core.specs.Memory.{Value, Bits, At, Nowhere, Poisoned, Memory, load, store, fresh, kill, kill_all}
 use Rattle.ir_core.specs.Rows.{Answer, Gives, NoGood, Mistyped, Read, Is, IsPoison, IsOther, as_word, bin, icmp, choose, cast_read, scaled, moved, is_of}
 
 -- a program: its globals, which are the first blocks of memory, and its functions' bodies

@@ -1,17 +1,15 @@
 -- Formed bodies and programs: those whose runs never ask for a value that is not there or has another type.
-use Rattle.std.specs.Prelude.{◌≡◌, ◌≢◌, ◌⊎◌, ◌↔◌, ℕ, zero, suc, ◌+◌, ◌*◌, ◌%◌, ◌<◌, ◌≤◌, List, [], ◌∷◌, ◌++◌, length, map, Option, Some, None, slice_get, All, AllPairs, Contains}
+use Rattle.std.specs.Prelude.{◌≡◌, ◌≢◌, ◌⊎◌, ℕ, ◌<◌, ◌≤◌, List, [], ◌∷◌, ◌++◌, length, map, Option, Some, None, slice_get, All, AllPairs, Contains}
 use Rattle.std.specs.List.{flat_map, filter_map}
 use Rattle.oi_base.specs.declared.words.Width.{Width}
-use Rattle.oi_base.specs.declared.words.Width.TheVariants.{W1, W8, W16, W32}
+use Rattle.oi_base.specs.declared.words.Width.TheVariants.{W1, W32}
 use Rattle.ir_core.specs.declared.flat.Scalar.{Scalar}
 use Rattle.ir_core.specs.declared.flat.Scalar.TheVariants as scalar
 use Rattle.ir_core.specs.declared.flat.CastOp.{CastOp}
 use Rattle.ir_core.specs.declared.flat.CastOp.TheVariants.{Zext, Sext, Trunc}
 use Rattle.oi_base.specs.declared.ids.RegId.{RegId}
-use Rattle.oi_base.specs.declared.ids.BlockId.{BlockId}
 use Rattle.ir_core.specs.declared.flat.FlatOp.{FlatOp}
 use Rattle.ir_core.specs.declared.flat.FlatOp.TheVariants.{Reg, Word, Null, Address, Poison}
-use Rattle.ir_core.specs.declared.flat.Term.{Term}
 use Rattle.ir_core.specs.declared.flat.Case.{Case}
 use Rattle.ir_core.specs.declared.flat.Entry.{Entry}
 use Rattle.ir_core.specs.declared.flat.Phi.{Phi}
@@ -22,7 +20,7 @@ use Rattle.ir_core.specs.declared.flat.FlatEnd.TheVariants.{Ret, Br, Cond, Switc
 use Rattle.ir_core.specs.declared.flat.FlatBlock.{FlatBlock}
 use Rattle.ir_core.specs.declared.flat.FlatBody.{FlatBody}
 use Rattle.oi_base.specs.Words.{modulus, bits}
-use Rattle.ir_core.specs.Memory.{Value, Bits, At, Nowhere, Poisoned, scalar_size}
+use Rattle.ir_core.specs.Memory.{scalar_size}
 use Rattle.ir_core.specs.Flat.{Program}
 
 -- ---- what is written and used

@@ -1,7 +1,6 @@
 -- Values, bytes and blocks of memory. Memory is a list of blocks without addresses; LangRef calls a block an allocated
 -- object, and what follows is the part of its memory model that these types and instructions need.
-use Rattle.std.specs.Prelude.{ℕ, zero, suc, ◌+◌, ◌*◌, ◌/◌, ◌%◌, Bool, true, false, not, ◌&&◌, ◌||◌, nat_eq, nat_le, nat_lt, if◌then◌else◌, List, [], ◌∷◌, ◌++◌, length, take, drop, replicate, Option, Some, None, slice_get, slice_set}
-use Rattle.oi_base.specs.declared.words.Width.{Width}
+use Rattle.std.specs.Prelude.{ℕ, zero, suc, ◌+◌, ◌*◌, ◌/◌, ◌%◌, Bool, true, false, not, ◌&&◌, nat_eq, nat_le, nat_lt, if◌then◌else◌, List, [], ◌∷◌, ◌++◌, length, take, drop, replicate, Option, Some, None, slice_get, slice_set}
 use Rattle.oi_base.specs.declared.words.Width.TheVariants.{W1, W8, W16, W32}
 use Rattle.ir_core.specs.declared.flat.Scalar.{Scalar}
 use Rattle.ir_core.specs.declared.flat.Scalar.TheVariants.{Word, Pointer}

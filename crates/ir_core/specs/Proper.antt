@@ -1,16 +1,14 @@
 -- Modules that are proper: what every module that was read from a text is.
-use Rattle.std.specs.Prelude.{◌≡◌, ◌≢◌, ℕ, ◌<◌, ◌≤◌, ℤ, pos, negsuc, List, [], ◌∷◌, length, All, AllPairs, Option, Some, None, IsSome, IsNone, ⊤}
+use Rattle.std.specs.Prelude.{◌≢◌, ℕ, ◌<◌, ◌≤◌, ℤ, pos, negsuc, List, [], length, All, AllPairs, Some, IsSome, IsNone, ⊤}
 use Rattle.ir_core.specs.declared.ty.TypeName.{TypeName}
 use Rattle.ir_core.specs.declared.ty.IrType.{IrType, Void}
-use Rattle.ir_core.specs.declared.ty.IrType.TheVariants as types
 use Rattle.ir_core.specs.declared.module.SymId.{SymId}
 use Rattle.ir_core.specs.declared.module.Module.{Module}
 use Rattle.ir_core.specs.declared.constant.Const.{Const}
 use Rattle.ir_core.specs.declared.constant.Const as consts
-use Rattle.ir_core.specs.declared.constant.TypedCount.{TypedCount}
 use Rattle.ir_core.specs.declared.op.LocalId.{LocalId}
 use Rattle.ir_core.specs.declared.op.Op.{Op}
-use Rattle.ir_core.specs.declared.op.Op.TheVariants.{Bin, Icmp, Select, Cast, Alloca, Load, Store, Gep, Phi, Call}
+use Rattle.ir_core.specs.declared.op.Op.TheVariants.{Alloca, Store, Phi, Call}
 use Rattle.ir_core.specs.declared.func.Instr.{Instr}
 use Rattle.ir_core.specs.declared.func.Func.{Func}
 use Rattle.ir_core.specs.Parts.{instrs, func_consts, func_locals, module_symbols, module_type_names, sites}

@@ -1,13 +1,13 @@
 -- What operations give on values.
-use Rattle.std.specs.Prelude.{ℕ, zero, suc, ◌+◌, ◌-◌, ◌*◌, ◌/◌, ◌%◌, Bool, true, false, not, ◌&&◌, ◌||◌, nat_eq, nat_le, nat_lt, if◌then◌else◌, List, [], ◌∷◌, length, Option, Some, None, slice_get}
+use Rattle.std.specs.Prelude.{ℕ, zero, suc, ◌+◌, ◌-◌, ◌*◌, ◌%◌, Bool, true, false, not, ◌&&◌, ◌||◌, nat_eq, nat_le, nat_lt, if◌then◌else◌, length, Option, Some, None, slice_get}
 use Rattle.oi_base.specs.declared.words.Width.{Width}
-use Rattle.oi_base.specs.declared.words.Width.TheVariants.{W1, W8, W16, W32}
+use Rattle.oi_base.specs.declared.words.Width.TheVariants.{W32}
 use Rattle.ir_core.specs.declared.flat.Scalar.{Scalar}
 use Rattle.ir_core.specs.declared.flat.Scalar.TheVariants.{Word, Pointer}
 use Rattle.ir_core.specs.declared.flat.BinOp.{BinOp}
 use Rattle.ir_core.specs.declared.flat.BinOp.TheVariants.{Udiv, Sdiv, Urem, Srem}
 use Rattle.ir_core.specs.declared.flat.Cmp.{Cmp}
-use Rattle.ir_core.specs.declared.flat.Cmp.TheVariants.{Eq, Ne, Ugt, Uge, Ult, Ule, Sgt, Sge, Slt, Sle}
+use Rattle.ir_core.specs.declared.flat.Cmp.TheVariants.{Eq, Ne}
 use Rattle.ir_core.specs.declared.flat.CastOp.{CastOp}
 use Rattle.oi_base.specs.Words.{modulus, signed_of, word_of}
 use Rattle.ir_core.specs.Words.{Outcome, Known, NoWord, NoMeaning, word_op, divides, word_test, word_cast, bit}

@@ -1,6 +1,6 @@
 -- Operations on words of 1, 8, 16 and 32 bits (LangRef, "Binary Operations", "Bitwise Binary Operations",
 -- "icmp Instruction" and "Conversion Operations").
-use Rattle.std.specs.Prelude.{ℕ, zero, suc, ◌+◌, ◌-◌, ◌*◌, ◌/◌, ◌%◌, ◌^◌, Bool, true, false, not, ◌&&◌, ◌==◌, nat_lt, nat_le, nat_eq, if◌then◌else◌, ℤ, pos, negsuc, int_lt, int_div, int_rem, bit_and, bit_or, bit_xor}
+use Rattle.std.specs.Prelude.{ℕ, ◌+◌, ◌-◌, ◌*◌, ◌/◌, ◌%◌, ◌^◌, Bool, true, false, not, ◌&&◌, nat_lt, nat_le, nat_eq, if◌then◌else◌, ℤ, pos, negsuc, int_lt, int_div, int_rem, bit_and, bit_or, bit_xor}
 use Rattle.oi_base.specs.declared.words.Width.{Width}
 use Rattle.oi_base.specs.Words.{bits, modulus, signed_of, word_of}
 use Rattle.ir_core.specs.declared.flat.BinOp.{BinOp}

@@ -101,6 +101,7 @@ fn definitions(alloc: Global) -> Result<Vec<TypeDef>, NoMemory> {
     define(&mut defs, 3, structure(alloc, [I8, named(4)])?)?;
     define(&mut defs, 4, array(alloc, 0, named(3))?)?;
     define(&mut defs, 5, structure(alloc, [named(3)])?)?;
+    chains(alloc, &mut defs)?;
     Ok(defs)
 }
 
@@ -178,43 +179,54 @@ fn offsets_of(rt: &impl Abort, m: &Module, t: &IrType, offsets: &[(u32, u32)]) {
     }
 }
 
-#[test]
-fn sizes_of_types(rt: HostRuntime) -> Result<(), Fail> {
-    let alloc = rt.alloc();
-    let mut defs = definitions(alloc)?;
-    chains(alloc, &mut defs)?;
-    let m = module(alloc, defs)?;
+fn all_rows(alloc: Global) -> Result<Vec<Row>, NoMemory> {
     let mut rows = Vec::new(alloc);
     structs(alloc, &mut rows)?;
     arrays(alloc, &mut rows)?;
     large(alloc, &mut rows)?;
     names(&mut rows)?;
-    for Row { ty, size, align } in &rows {
-        assert!(rt; m.types.defs.has_layout(ty));
-        assert_eq!(rt; size_of(&m, ty).ok(), *size);
-        assert_eq!(rt; align_of(&m, ty), *align);
-    }
+    Ok(rows)
+}
+
+fn measured(rt: &impl Abort, m: &Module, row: &Row) {
+    assert!(rt; m.types.defs.has_layout(&row.ty));
+    assert_eq!(rt; size_of(m, &row.ty).ok(), row.size);
+    assert_eq!(rt; align_of(m, &row.ty), row.align);
+}
+
+fn placed(rt: &impl Abort, alloc: Global, m: &Module) -> Result<(), NoMemory> {
     let mixed = structure(alloc, [I1, IrType::Ptr, I16, I8, I32])?;
     let places = [(0, 0), (1, 4), (2, 8), (3, 10), (4, 12)];
-    offsets_of(&rt, &m, &mixed, &places);
+    offsets_of(rt, m, &mixed, &places);
     let padded = structure(alloc, [I8, array(alloc, 0, I32)?])?;
-    offsets_of(&rt, &m, &padded, &[(0, 0), (1, 4)]);
-    offsets_of(&rt, &m, &named(0), &[(0, 0), (1, 2)]);
-    offsets_of(&rt, &m, &named(1), &[(0, 0), (1, 2)]);
-    offsets_of(
-        &rt,
-        &m,
-        &named(300),
-        &[(0, 0), (1, 8_388_608), (2, 8_388_608)],
-    );
-    for name in 3..7 {
+    offsets_of(rt, m, &padded, &[(0, 0), (1, 4)]);
+    Ok(())
+}
+
+/// The names 3 to 5 lead back to 3, and 6 is not defined.
+fn not_measured(rt: &impl Abort, alloc: Global, m: &Module) -> Result<(), NoMemory> {
+    for name in [3, 4, 5, 6] {
         assert!(rt; !m.types.defs.has_layout(&named(name)));
     }
-    assert!(rt;
-        !m.types
-            .defs
-            .has_layout(&structure(alloc, [I8, IrType::Void])?)
-    );
+    let void = structure(alloc, [I8, IrType::Void])?;
+    assert!(rt; !m.types.defs.has_layout(&void));
+    Ok(())
+}
+
+#[test]
+fn sizes_of_types(rt: HostRuntime) -> Result<(), Fail> {
+    let alloc = rt.alloc();
+    let m = module(alloc, definitions(alloc)?)?;
+    let rows = all_rows(alloc)?;
+    for row in &rows {
+        measured(&rt, &m, row);
+    }
+    placed(&rt, alloc, &m)?;
+    not_measured(&rt, alloc, &m)?;
+    offsets_of(&rt, &m, &named(0), &[(0, 0), (1, 2)]);
+    offsets_of(&rt, &m, &named(1), &[(0, 0), (1, 2)]);
+    let halves = [(0, 0), (1, 8_388_608), (2, 8_388_608)];
+    offsets_of(&rt, &m, &named(300), &halves);
     Ok(())
 }
 

@@ -1,4 +1,4 @@
-use Rattle.std.proofs.Common.{◌≡◌, length, refl}
+use Rattle.std.proofs.Common.{length, refl}
 use Rattle.std.proofs.lemmas.Option.{slice_get_read}
 use Rattle.ir_core.specs.Known.{so_far}
 use Rattle.ir_core.proofs.Laying.{knows_so_far, laid_there, no_layout_there, fewer}

@@ -1,4 +1,3 @@
-use Rattle.std.proofs.Common.{◌≡◌}
 use Rattle.ir_core.proofs.Laying.{describes}
 use Rattle.ir_core.proofs.defs.lay_all.Goals as goal
 

@@ -1,4 +1,4 @@
-use Rattle.std.proofs.Common.{◌≡◌, ℕ, ◌+◌, true, false, cond}
+use Rattle.std.proofs.Common.{◌≡◌, ◌+◌, false, cond}
 use Rattle.ir_core.specs.declared.ty.TypeName.{TypeName}
 use Rattle.ir_core.specs.Known.{IsRight, IsStuck, unlaid}
 use Rattle.ir_core.proofs.defs.lay_all.Given as goal

@@ -1,4 +1,4 @@
-use Rattle.std.proofs.Common.{◌≡◌, ℕ, ◌≤◌, length, drop, None}
+use Rattle.std.proofs.Common.{◌≡◌, ℕ, ◌≤◌, length, drop}
 use Rattle.std.specs.List.{position_from}
 use Rattle.ir_core.specs.Sizes.{is_named}
 use Rattle.ir_core.specs.Known.{name_at, position_in, HasNoLayouts}

@@ -1,4 +1,4 @@
-use Rattle.std.proofs.Common.{◌≡◌, Some, None}
+use Rattle.std.proofs.Common.{Some, None}
 use Rattle.ir_core.proofs.Measured.{whole_layout, align_is, has_layout}
 use Rattle.ir_core.proofs.sizes.align_of.Goals as goal
 

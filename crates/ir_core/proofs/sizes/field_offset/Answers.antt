@@ -1,4 +1,4 @@
-use Rattle.std.proofs.Common.{◌≡◌, sym, ◌∙◌, ap}
+use Rattle.std.proofs.Common.{sym, ◌∙◌, ap}
 use Rattle.ir_core.specs.declared.ty.IrType.TheVariants as types
 use Rattle.ir_core.proofs.Fields.{offset_is}
 use Rattle.ir_core.proofs.sizes.field_offset.Goals as goal

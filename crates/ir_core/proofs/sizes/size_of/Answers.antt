@@ -1,4 +1,4 @@
-use Rattle.std.proofs.Common.{◌≡◌, ◌≤◌, Some, None, Ok, ap, arith}
+use Rattle.std.proofs.Common.{◌≡◌, Some, None, Ok, ap, arith}
 use Rattle.ir_core.specs.Sizes.{size}
 use Rattle.ir_core.proofs.Measured.{whole_layout, size_is, has_layout}
 use Rattle.ir_core.proofs.sizes.size_of.Goals as goal
