@@ -1,3 +1,4 @@
+pub mod Answering
 pub mod Appending
 pub mod Budget
 pub mod Causes

@@ -435,7 +435,7 @@ text_given bytes ss b h r =
 pub text_read : (bytes : List ℕ) (ss : List Spot) (b : Body) → HasTokens (whole bytes) ss → main_of ss ≡ Some b → Reads bytes b
 text_read bytes ss b h e = record { spots = ss; lexed = h; parsed = main_is ss b e }
 
-text_not : (bytes : List ℕ) (f : LexFault) (b : Body) → Lexes (whole bytes) (Err f) → Reads bytes b → ⊥
+pub text_not : (bytes : List ℕ) (f : LexFault) (b : Body) → Lexes (whole bytes) (Err f) → Reads bytes b → ⊥
 text_not bytes f b h r = let e = one_answer (whole bytes) (Ok r.spots) (Err f) r.lexed h in cc
 
 -- a text with a fault of the lexer is that of no `main`

@@ -1,9 +1,10 @@
-ghost use Rattle.std.specs.Prelude.{◌≡◌, ◌≢◌, ◌≤◌, ◌++◌, [], IfOk, length};
+ghost use Rattle.std.specs.Prelude.{ℕ, List, ◌≡◌, ◌≢◌, ◌≤◌, ◌++◌, [], IfOk, length};
 ghost use Rattle.std.specs.Option.{option_map};
 ghost use Rattle.std.specs.String.{string_bytes};
 ghost use Rattle.optinline.specs.Words.{view};
 ghost use Rattle.optinline.specs.Parsing.{IsKnownBody};
-ghost use Rattle.optinline.specs.Answer.{answer_of, refusal, summary, heading, leaf, built, module_limit, IsModuleAnswer, IsFileAnswer, IsBuildStatus};
+ghost use Rattle.oi_world.specs.Desk.{Files};
+ghost use Rattle.optinline.specs.Answer.{Answer, IsAnswer, answer_of, refusal, summary, heading, leaf, built, module_limit, IsModuleAnswer, IsFileAnswer, IsBuildStatus};
 
 use crate::body::Body;
 use crate::executable::build_executable;
@@ -132,3 +133,9 @@ pub fn build_reply(
     }
     module_reply(alloc, build, bytes.as_slice())
 }
+
+/// The answer is a function of the words and the files: there is one, and one alone.
+pub fn an_answer_is_a_function()
+    ensures some { (words : List (List ℕ)) (files : Files) → (a : Answer) × IsAnswer words files a }
+    ensures one { (words : List (List ℕ)) (files : Files) (a b : Answer) → IsAnswer words files a → IsAnswer words files b → a ≡ b }
+{}
