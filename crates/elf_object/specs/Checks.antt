@@ -60,7 +60,7 @@ field_checks kind file at (f ∷ fs) = field_check kind file at f ∷ field_chec
 unfoldable pub permitted : Bool → ℕ → ℕ
 permitted ok found = if ok then found else 4294967296
 
--- ---- 1 to 4: the length, the header and the program headers
+-- ---- the length, the header and the program headers
 
 -- the numbers that differ from file to file, as the file says them
 unfoldable pub shoff : List ℕ → ℕ
@@ -77,19 +77,23 @@ loaded_sizes file = record { text = word_at file 68; data_bytes = word_at file 1
 unfoldable pub info : List ℕ → ℕ
 info file = word_at file (shoff file + 148)
 
+-- a file has at least its header and two program headers
 unfoldable pub length_checks : List ℕ → List Check
 length_checks file = record { field = fields.Length; offset = 0; found = length file; passes = nat_le 116 (length file) } ∷ []
 
--- any place of the section headers is right here
+-- the fields of the header; any place of the section headers is right here
 unfoldable pub header_checks : List ℕ → List Check
 header_checks file = field_checks fields.Header file 0 (ehdr_fields (executable (shoff file)))
 
+-- 16 to 4,194,304 bytes, in words of 4
 abbrev pub is_text_size : ℕ → Bool
 is_text_size n = nat_le 16 n && nat_le n 4194304 && (n % 4 == 0)
 
+-- at most 1,048,576 bytes
 abbrev pub is_data_size : ℕ → Bool
 is_data_size n = nat_le n 1048576
 
+-- the program headers that are wanted: those of any permitted sizes
 unfoldable pub wanted_text_segment : Sizes → Phdr
 wanted_text_segment s = record (text_segment s) { p_filesz = permitted (is_text_size s.text) s.text }
 
@@ -105,24 +109,28 @@ program_checks file =
 unfoldable pub end_checks : List ℕ → List Check
 end_checks file = record { field = fields.Shoff; offset = 32; found = shoff file; passes = shoff file + 240 == length file } ∷ []
 
--- ---- 5 to 7: the section headers and the gaps
+-- ---- the section headers and the gaps
 
+-- whole entries, the zero entry among them
 abbrev pub is_symtab_size : ℕ → Bool
 is_symtab_size n = (n % 16 == 0) && nat_le 16 n
 
--- at least 1, and at most the number of entries
+-- the zero entry comes before the first global one, which may be missing
 abbrev pub is_first_global : ℕ → ℕ → Bool
 is_first_global symtab n = nat_le 1 n && nat_le n (symtab / 16)
 
+-- the first zero byte at least, and with the symbol table at most 1,073,741,824 bytes
 abbrev pub is_strtab_size : ℕ → ℕ → Bool
 is_strtab_size symtab n = nat_le 1 n && nat_le (symtab + n) 1073741824
 
+-- the section headers that are wanted: those of any permitted sizes, and of any permitted first global entry
 unfoldable pub wanted_symtab_section : Sizes → ℕ → Shdr
 wanted_symtab_section s first = record (symtab_section s first) { sh_size = permitted (is_symtab_size s.symtab) s.symtab; sh_info = permitted (is_first_global s.symtab first) first }
 
 unfoldable pub wanted_strtab_section : Sizes → Shdr
 wanted_strtab_section s = record (strtab_section s) { sh_size = permitted (is_strtab_size s.symtab s.strtab) s.strtab }
 
+-- the first three section headers, and the other three
 unfoldable pub loaded_section_checks : List ℕ → List Check
 loaded_section_checks file =
     let at = shoff file in
@@ -137,6 +145,7 @@ linking_section_checks file =
     ++ field_checks fields.Section file (at + 160) (shdr_fields (wanted_strtab_section (sizes file)))
     ++ field_checks fields.Section file (at + 200) (shdr_fields (shstrtab_section (sizes file)))
 
+-- the section headers stand behind the other parts
 unfoldable pub place_checks : List ℕ → List Check
 place_checks file = record { field = fields.Shoff; offset = 32; found = shoff file; passes = shoff file == sections_at (sizes file) } ∷ []
 
@@ -144,6 +153,7 @@ place_checks file = record { field = fields.Shoff; offset = 32; found = shoff fi
 unfoldable pub zero_checks : List ℕ → ℕ → ℕ → List Check
 zero_checks file from to = field_checks fields.Gap file from (replicate (to - from) (Byte 0))
 
+-- the bytes between the parts
 unfoldable pub gap_checks : List ℕ → List Check
 gap_checks file =
     let s = sizes file in
@@ -183,9 +193,11 @@ symbols_at file table at name_at locals (suc n) =
     let name = string_at table name_at in
     symbol_at file at (locals == 0) name ∷ symbols_at file table (at + 16) (place_after (length table) name_at name) (locals - 1) n
 
+-- the symbols of the file: an entry each, but for the zero entry
 unfoldable pub symbols : List ℕ → List Symbol
 symbols file = symbols_at file (strings file) (symtab_at (sizes file) + 16) 1 (info file - 1) ((sizes file).symtab / 16 - 1)
 
+-- the image of the file
 unfoldable pub image : List ℕ → Parts
 image file = record {
   text = take (sizes file).text (drop text_at file);
@@ -193,13 +205,14 @@ image file = record {
   symbols = symbols file;
 }
 
--- ---- 8 to 10: the symbol table, the strings and the section names
+-- ---- the symbol table, the strings and the section names
 
--- the entries of the symbols, whose names stand in strings of this size from a place on
+-- from a place of the file on these symbols' entries are wanted, whose names stand in strings of this size from a place on
 unfoldable pub entry_checks : List ℕ → ℕ → ℕ → ℕ → List Symbol → List Check
 entry_checks file size at name_at [] = []
 entry_checks file size at name_at (s ∷ ss) = field_checks fields.Symbol file at (sym_fields (entry name_at s)) ++ entry_checks file size (at + 16) (place_after size name_at s.name) ss
 
+-- the zero entry, and the symbols' entries
 unfoldable pub symbol_checks : List ℕ → List Check
 symbol_checks file =
     let s = sizes file in
@@ -217,11 +230,13 @@ unfoldable pub name_checks : List ℕ → ℕ → ℕ → ℕ → List Symbol �
 name_checks file start size name_at [] = record { field = fields.Strings; offset = start + name_at; found = byte_at file (start + name_at); passes = name_at == size } ∷ []
 name_checks file start size name_at (s ∷ ss) = name_check file start size name_at s.name ∷ name_checks file start size (place_after size name_at s.name) ss
 
+-- the zero byte at the front of the strings, and the names
 unfoldable pub string_checks : List ℕ → List Check
 string_checks file =
     let start = strtab_at (sizes file) in
     field_checks fields.Strings file start (Byte 0 ∷ []) ++ name_checks file start (sizes file).strtab 1 (symbols file)
 
+-- the bytes of the section names
 unfoldable pub section_name_checks : List ℕ → List Check
 section_name_checks file = field_checks fields.Names file (shstrtab_at (sizes file)) (map Byte section_names)
 
@@ -239,6 +254,7 @@ layout_checks file = loaded_section_checks file ++ linking_section_checks file +
 unfoldable pub table_checks : List ℕ → List Check
 table_checks file = symbol_checks file ++ string_checks file ++ section_name_checks file
 
+-- all checks, in order
 unfoldable pub checks : List ℕ → List Check
 checks file = front_checks file ++ layout_checks file ++ table_checks file
 

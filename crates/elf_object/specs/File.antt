@@ -46,6 +46,7 @@ section_of Object = 2
 unfoldable pub entry : ℕ → Symbol → Sym
 entry name_at s = record { st_name = name_at; st_value = s.value; st_size = s.size; st_info = info_of s.kind s.global; st_other = 0; st_shndx = section_of s.kind }
 
+-- entry 0 of each symbol table
 unfoldable pub zero_entry : Sym
 zero_entry = record { st_name = 0; st_value = 0; st_size = 0; st_info = 0; st_other = 0; st_shndx = 0 }
 
@@ -54,11 +55,13 @@ unfoldable pub entries_bytes : ℕ → List Symbol → List ℕ
 entries_bytes name_at [] = []
 entries_bytes name_at (s ∷ ss) = fields_bytes (sym_fields (entry name_at s)) ++ entries_bytes (name_at + length s.name + 1) ss
 
+-- the zero entry, then the symbols' entries, whose first name is behind the strings' zero byte
 unfoldable pub symbol_table : List Symbol → List ℕ
 symbol_table symbols = fields_bytes (sym_fields zero_entry) ++ entries_bytes 1 symbols
 
 -- ---- the headers
 
+-- the header, the two program headers, and the six section headers
 unfoldable pub header : Sizes → List ℕ
 header s = fields_bytes (ehdr_fields (executable (sections_at s)))
 

@@ -3,6 +3,7 @@
 
 mod checks;
 mod elf32;
+mod entries;
 mod fault;
 mod image;
 mod layout;

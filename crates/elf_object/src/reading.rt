@@ -9,6 +9,7 @@ ghost use Rattle.elf_object.specs.Checks.{Answers, IsEnded, IsLaidOut, first_fai
 
 use crate::checks::{check, check_bytes, check_fields, check_zeros, word_at};
 use crate::elf32::{Field, Phdr, Shdr};
+use crate::entries::zero_entry;
 use crate::fault::{ElfFault, ElfField};
 use crate::image::Image;
 use crate::layout::{
@@ -17,7 +18,6 @@ use crate::layout::{
 };
 use crate::symbol::{Symbol, Symbols};
 use crate::tables::{check_entries, check_strings, symbols_at};
-use crate::writing::zero_entry;
 use oi_base::{NoMemory, Text};
 use std::alloc::Global;
 

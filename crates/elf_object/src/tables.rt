@@ -5,9 +5,9 @@ ghost use Rattle.std.specs.List.{position, position_or_len};
 ghost use Rattle.elf_object.specs.Checks.{first_failed, string_at, place_after, symbol_at, symbols_at, entry_checks, name_check, name_checks};
 
 use crate::checks::{byte_at, check, check_fields, word_at};
+use crate::entries::{entry, info_of};
 use crate::fault::{ElfFault, ElfField};
 use crate::symbol::{SymKind, Symbol, Symbols};
-use crate::writing::{entry, info_of};
 use oi_base::{Items, NoMemory, Text};
 use std::alloc::Global;
 

@@ -1,14 +1,15 @@
 ghost use Rattle.std.specs.Prelude.{◌≡◌, ◌+◌, ◌≤◌, ◌<◌, ◌^◌, ◌++◌, List, length, not, count_by, fold, OnOk, IfOk};
 ghost use Rattle.elf_object.specs.Image.{string_table, symbol_table_size};
-ghost use Rattle.elf_object.specs.File.{padded, placed, loaded_parts, section_parts, sizes_of, first_global, info_of, section_of, entry, zero_entry, entries_bytes, symbol_table, header, segments, sections, elf};
+ghost use Rattle.elf_object.specs.File.{padded, placed, loaded_parts, section_parts, sizes_of, first_global, entries_bytes, symbol_table, header, segments, sections, elf};
 
-use crate::elf32::{Sym, put_fields};
+use crate::elf32::put_fields;
+use crate::entries::{entry, zero_entry};
 use crate::image::Image;
 use crate::layout::{
     SECTION_NAMES, SEGMENTS_AT, Sizes, TEXT_AT, data_section, data_segment, executable,
     null_section, shstrtab_section, strtab_section, symtab_section, text_section, text_segment,
 };
-use crate::symbol::{SymKind, Symbol};
+use crate::symbol::Symbol;
 use oi_base::NoMemory;
 use std::alloc::Global;
 
@@ -57,60 +58,6 @@ fn put_sections(out: &mut Vec<u8>, sizes: &Sizes, first_global: u64) -> Result<(
     put_fields(out, &symtab_section(sizes, first_global).fields())?;
     put_fields(out, &strtab_section(sizes).fields())?;
     put_fields(out, &shstrtab_section(sizes).fields())
-}
-
-/// The type of a symbol, with its binding in the upper four bits.
-pub fn info_of(kind: SymKind, global: bool) -> u8
-    ensures { result ≡ info_of kind global }
-{
-    let symbol_type = match kind {
-        SymKind::Func => 2,
-        SymKind::Object => 1,
-    };
-    if global {
-        16 + symbol_type
-    } else {
-        symbol_type
-    }
-}
-
-/// The number of the section that a symbol of this kind stands in.
-pub fn section_of(kind: SymKind) -> u16
-    ensures { result ≡ section_of kind }
-{
-    match kind {
-        SymKind::Func => 1,
-        SymKind::Object => 2,
-    }
-}
-
-/// The entry of a symbol whose name is at this place of the string table.
-#[tactic(auto, unfolding(crate::specs::File::entry))]
-pub fn entry(name_at: u64, symbol: &Symbol) -> Sym
-    ensures { result ≡ entry name_at symbol.now }
-{
-    Sym {
-        st_name: name_at,
-        st_value: u64::from(symbol.value),
-        st_size: u64::from(symbol.size),
-        st_info: info_of(symbol.kind, symbol.global),
-        st_other: 0,
-        st_shndx: section_of(symbol.kind),
-    }
-}
-
-#[tactic(auto, unfolding(crate::specs::File::zero_entry))]
-pub fn zero_entry() -> Sym
-    ensures { result ≡ zero_entry }
-{
-    Sym {
-        st_name: 0,
-        st_value: 0,
-        st_size: 0,
-        st_info: 0,
-        st_other: 0,
-        st_shndx: 0,
-    }
 }
 
 fn put_entries(out: &mut Vec<u8>, symbols: &[Symbol]) -> Result<(), NoMemory>
