@@ -1,16 +1,15 @@
 -- Accesses to the parts of memory.
-use Rattle.std.proofs.Common.{◌≡◌, ℕ, zero, suc, ◌+◌, ◌-◌, ◌*◌, ◌/◌, ◌%◌, ◌<◌, ◌≤◌, refl, sym, ap, ◌∙◌, subst, arith, Bool, true, false, ◌&&◌, if◌then◌else◌, List, [], ◌∷◌, length, Option, Some, None, Result, Ok, Err, slice_index_or}
+use Rattle.std.proofs.Common.{◌≡◌, ℕ, zero, suc, ◌+◌, ◌*◌, ◌/◌, ◌%◌, ◌<◌, ◌≤◌, refl, sym, ap, ◌∙◌, subst, arith, List, [], ◌∷◌, length, Option, Some, None, Ok, Err, slice_index_or}
 use Rattle.std.proofs.lemmas.Bool.Decides.{nat_tests}
 use Rattle.rv_isa.specs.declared.rv.Rv.{Rv}
 use Rattle.rv_isa.specs.Decode.{decode_of}
-use Rattle.rv_isa.specs.Memory.{Segments, Readable, Writable, Executable, read, write, text_start, data_start, stack_start}
+use Rattle.rv_isa.specs.Memory.{Readable, Writable, Executable, read, write, text_start}
 use Rattle.rv_machine.specs.Bytes.{held}
-use Rattle.rv_machine.specs.Memory.{Contents, bytes_of, segments_of, IsMapped, IsDecoded, IsCoded, IsPlaced, refusal, unless_refused, fetched, or_illegal}
+use Rattle.rv_machine.specs.Memory.{Contents, bytes_of, segments_of, IsMapped, IsDecoded, IsPlaced, refusal, unless_refused, fetched, or_illegal}
 use Rattle.rv_machine.specs.declared.stop.Stop.{Stop}
 use Rattle.rv_machine.specs.declared.stop.Stop.TheVariants.{Illegal}
 use Rattle.rv_machine.specs.declared.memory.Place.{Place}
 use Rattle.rv_machine.specs.declared.memory.Place.TheVariants.{Text, Data, Stack}
-use Rattle.rv_machine.proofs.Numbers.{read_moved}
 use Rattle.rv_machine.proofs.Places.{read_text, read_data, read_stack, write_data, write_stack}
 
 -- ---- permissions
@@ -60,17 +59,19 @@ load_stack now c place a n at v m same is p h =
 pub store_data : (now c : Contents) (new : List ℕ) (place : Place) (a n at v : ℕ) → IsMapped c → c ≡ now → place ≡ Data at → IsPlaced now a n place → length new ≡ length c.data_bytes → held new ≡ write (held c.data_bytes) n at v → (refusal (segments_of now) Writable a n ≡ None) × (bytes_of (record c { data_bytes = new }) ≡ write (bytes_of now) n a v)
 store_data now c new place a n at v m same is p len h =
     let p' : IsPlaced now a n (Data at) = subst (λ q. IsPlaced now a n q) is p in
-    let q : IsPlaced c a n (Data at) = subst (λ d. IsPlaced d a n (Data at)) (sym same) p' in
-    (data_writable now a n at p',
-     write_data c new n at v m len h q.within.1 ∙ ap (λ (b : ℕ). write (bytes_of c) n b v) (sym q.within.0) ∙ ap (λ (d : Contents). write (bytes_of d) n a v) same)
+    let q : IsPlaced c a n (Data at) = subst (λ d. IsPlaced d a n (Data at)) (sym same) p' in (
+      data_writable now a n at p',
+      write_data c new n at v m len h q.within.1 ∙ ap (λ (b : ℕ). write (bytes_of c) n b v) (sym q.within.0) ∙ ap (λ (d : Contents). write (bytes_of d) n a v) same,
+    )
 
 pub store_stack : (now c : Contents) (new : List ℕ) (place : Place) (a n at v : ℕ) → IsMapped c → c ≡ now → place ≡ Stack at → IsPlaced now a n place → length new ≡ length c.stack → held new ≡ write (held c.stack) n at v → (refusal (segments_of now) Writable a n ≡ None) × (bytes_of (record c { stack = new }) ≡ write (bytes_of now) n a v)
 store_stack now c new place a n at v m same is p len h =
     let p' : IsPlaced now a n (Stack at) = subst (λ q. IsPlaced now a n q) is p in
     let q : IsPlaced c a n (Stack at) = subst (λ d. IsPlaced d a n (Stack at)) (sym same) p' in
-    let m' : IsMapped now = subst IsMapped same m in
-    (stack_writable now a n at m'.stack_size p',
-     write_stack c new n at v m len h q.within.1 ∙ ap (λ (b : ℕ). write (bytes_of c) n b v) (sym q.within.0) ∙ ap (λ (d : Contents). write (bytes_of d) n a v) same)
+    let m' : IsMapped now = subst IsMapped same m in (
+      stack_writable now a n at m'.stack_size p',
+      write_stack c new n at v m len h q.within.1 ∙ ap (λ (b : ℕ). write (bytes_of c) n b v) (sym q.within.0) ∙ ap (λ (d : Contents). write (bytes_of d) n a v) same,
+    )
 
 -- ---- fetches
 

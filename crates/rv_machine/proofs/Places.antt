@@ -1,9 +1,9 @@
 -- The parts of memory at their addresses.
-use Rattle.std.proofs.Common.{◌≡◌, ◌⊎◌, inl, inr, ℕ, zero, suc, ◌+◌, ◌-◌, ◌*◌, ◌%◌, ◌<◌, ◌≤◌, refl, sym, ap, ◌∙◌, arith, Bool, true, false, ◌&&◌, if◌then◌else◌, List, length, ⊎_elim}
+use Rattle.std.proofs.Common.{◌≡◌, ◌⊎◌, inl, inr, ℕ, ◌+◌, ◌-◌, ◌<◌, ◌≤◌, sym, ap, ◌∙◌, arith, List, length, ⊎_elim}
 use Rattle.std.proofs.lemmas.Bool.Decides.{nat_tests}
 use Rattle.std.proofs.lemmas.Bool.{cases_lt}
 use Rattle.std.proofs.Math.Path.{fun_ext}
-use Rattle.rv_isa.specs.Memory.{Segments, read, write, text_start, data_start, stack_start, bytes_at_load}
+use Rattle.rv_isa.specs.Memory.{read, write, text_start, data_start, stack_start, bytes_at_load}
 use Rattle.rv_isa.proofs.Bytes.{write_outside}
 use Rattle.rv_machine.specs.Bytes.{held}
 use Rattle.rv_machine.specs.Memory.{Contents, bytes_of, segments_of, IsMapped}
@@ -51,6 +51,7 @@ written_part f f' g g' s len at n v old new others written fits =
   where
     outside : (q : ℕ) → (q < s) ⊎ (s + len ≤ q) → f' q ≡ write f n (s + at) v q
     outside q h = let far : (q < s + at) ⊎ (s + at + n ≤ q) = grind arith in others q h ∙ sym (write_outside f n (s + at) v q far)
+
     inside : (q : ℕ) → s ≤ q → q < s + len → f' q ≡ write f n (s + at) v q
     inside q from lt =
         let k = q - s in

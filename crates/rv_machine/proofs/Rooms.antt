@@ -1,5 +1,5 @@
 -- The bounded machine and the definition's, turn by turn.
-use Rattle.std.proofs.Common.{◌≡◌, ◌≢◌, ◌⊎◌, inl, inr, ℕ, zero, suc, ◌+◌, ◌<◌, ◌≤◌, refl, sym, ap, ◌∙◌, subst, arith, Bool, true, false, not, ◌&&◌, nat_lt, if◌then◌else◌, List, [], ◌∷◌, ◌++◌, length, ⊎_elim, length-append}
+use Rattle.std.proofs.Common.{◌≡◌, ℕ, zero, suc, ◌+◌, ◌<◌, ◌≤◌, refl, sym, ap, ◌∙◌, arith, Bool, true, false, nat_lt, if◌then◌else◌, List, length, ⊎_elim, length-append}
 use Rattle.std.specs.Fn.{iterate}
 use Rattle.std.proofs.lemmas.Bool.Decides.{nat_tests}
 use Rattle.std.proofs.lemmas.Bool.{cases_lt}
@@ -7,7 +7,7 @@ use Rattle.rv_isa.specs.Memory.{Segments}
 use Rattle.rv_isa.specs.Isa as isa
 use Rattle.oi_base.specs.Follows.{IsPrefix}
 use Rattle.rv_isa.proofs.Grows.{output_grows}
-use Rattle.rv_machine.specs.State.{Bounded, output_room, started, advanced, carried, runs, turned}
+use Rattle.rv_machine.specs.State.{Bounded, output_room, started, carried, runs, turned}
 use Rattle.rv_machine.specs.Laws.{IsRun, IsFull, carried_in}
 
 -- ---- outputs
@@ -89,6 +89,7 @@ fills_many s (suc n) m k fits more = ⊎_elim now (λ under. later under (fills_
       fits = fits;
       more = over;
     }
+
     later : length (isa.step s m).output ≤ output_room → Fills s n (isa.step s m) (k + (if runs m.stop then carried (isa.step s m).stop else 0)) → Fills s (suc n) m k
     later under f =
         let before = f.fewer in

@@ -1,5 +1,5 @@
 -- A state that stands for the next machine.
-use Rattle.std.proofs.Common.{◌≡◌, ◌≢◌, ℕ, zero, suc, ◌+◌, ◌-◌, ◌<◌, ◌≤◌, refl, sym, ap, ◌∙◌, subst, arith, Bool, true, false, ◌&&◌, nat_lt, if◌then◌else◌, List, length, Option, Some, None, Result, Ok, Err}
+use Rattle.std.proofs.Common.{◌≡◌, ◌≢◌, ℕ, zero, suc, ◌+◌, ◌-◌, ◌≤◌, refl, sym, ap, ◌∙◌, subst, arith, Bool, true, false, ◌&&◌, nat_lt, if◌then◌else◌, length, Option, Some, None, Result, Ok, Err}
 use Rattle.std.proofs.lemmas.Bool.Decides.{nat_tests}
 use Rattle.std.specs.Fn.{iterate}
 use Rattle.rv_isa.specs.declared.rv.Rv.{Rv}
@@ -9,7 +9,7 @@ use Rattle.rv_isa.specs.Isa as isa
 use Rattle.oi_base.proofs.Iterate.{iterate_more, iterate_rest}
 use Rattle.rv_machine.specs.Bytes.{held}
 use Rattle.rv_machine.specs.Memory.{bytes_of, segments_of, KeepsText, refusal, or_illegal, fetched}
-use Rattle.rv_machine.specs.State.{Bounded, State, Stands, IsFault, output_room, advanced, carried, runs, turned, told, told_of, stop_of, is_full, machine_of, bounded}
+use Rattle.rv_machine.specs.State.{Bounded, State, Stands, IsFault, output_room, advanced, carried, turned, told, told_of, stop_of, is_full, machine_of, bounded}
 use Rattle.rv_machine.specs.declared.stop.Stop.{Stop}
 use Rattle.rv_machine.specs.declared.stop.Stop.TheVariants as halt
 

@@ -1,5 +1,5 @@
 -- What arrays of zeros hold.
-use Rattle.std.proofs.Common.{◌≡◌, ℕ, zero, suc, ◌+◌, refl, arith, Bool, true, false, ◌&&◌, nat_eq, if◌then◌else◌, List, [], ◌∷◌, replicate}
+use Rattle.std.proofs.Common.{◌≡◌, ℕ, zero, suc, refl, arith, Bool, true, false, ◌&&◌, nat_eq, if◌then◌else◌, List, [], ◌∷◌, replicate}
 use Rattle.std.proofs.lemmas.Bool.Decides.{nat_tests}
 use Rattle.rv_machine.specs.Bytes.{held}
 

@@ -1,5 +1,5 @@
 -- The memory as the machine keeps it, in arrays, and the map from addresses to bytes that it stands for.
-use Rattle.std.specs.Prelude.{ℕ, ◌≡◌, ◌+◌, ◌-◌, ◌*◌, ◌%◌, ◌<◌, ◌≤◌, ◌&&◌, true, false, if◌then◌else◌, List, length, Option, Some, None, Result, Ok, Err, slice_index_or}
+use Rattle.std.specs.Prelude.{ℕ, ◌≡◌, ◌+◌, ◌-◌, ◌*◌, ◌<◌, ◌≤◌, ◌&&◌, true, false, if◌then◌else◌, List, length, Option, Some, None, Result, Ok, Err, slice_index_or}
 use Rattle.rv_isa.specs.declared.rv.Rv.{Rv}
 use Rattle.rv_isa.specs.Decode.{decode_of}
 use Rattle.rv_isa.specs.Memory.{Segments, Permission, read, in_text, in_data, in_stack, touches_guard, is_permitted, is_aligned, text_start, data_start, stack_start}

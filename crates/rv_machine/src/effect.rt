@@ -3,7 +3,11 @@ ghost use Rattle.rv_isa.specs.Isa.{x as reads, effect};
 ghost use Rattle.rv_machine.specs.Effects.{effect_of};
 ghost use Rattle.rv_machine.specs.Bytes.{held};
 
-use crate::arithmetic::{is_less, is_less_unsigned, offset, product, quotient, quotient_unsigned, remainder, remainder_unsigned, shift_left, shift_right, shift_right_arithmetic, signed, upper_immediate, upper_product, upper_product_mixed, upper_product_unsigned, word};
+use crate::arithmetic::{
+    is_less, is_less_unsigned, offset, product, quotient, quotient_unsigned, remainder,
+    remainder_unsigned, shift_left, shift_right, shift_right_arithmetic, signed, upper_immediate,
+    upper_product, upper_product_mixed, upper_product_unsigned, word,
+};
 use crate::bytes::Size;
 use crate::registers::Registers;
 use rv_isa::{Rv, X};
@@ -46,17 +50,60 @@ pub fn effect_of(pc: u32, x: &Registers, instruction: Rv) -> Effect
         Rv::Auipc(rd, imm) => Effect::Sets(rd, pc.wrapping_add(upper_immediate(imm))),
         Rv::Jal(rd, distance) => Effect::Jumps(rd, offset(pc, distance)),
         Rv::Jalr(rd, rs1, imm) => Effect::Jumps(rd, offset(x.read(rs1), imm) / 2 * 2),
-        Rv::Beq(rs1, rs2, distance) => Effect::Branches(x.read(rs1) == x.read(rs2), offset(pc, distance)),
-        Rv::Bne(rs1, rs2, distance) => Effect::Branches(x.read(rs1) != x.read(rs2), offset(pc, distance)),
-        Rv::Blt(rs1, rs2, distance) => Effect::Branches(signed(x.read(rs1)) < signed(x.read(rs2)), offset(pc, distance)),
-        Rv::Bge(rs1, rs2, distance) => Effect::Branches(signed(x.read(rs1)) >= signed(x.read(rs2)), offset(pc, distance)),
-        Rv::Bltu(rs1, rs2, distance) => Effect::Branches(x.read(rs1) < x.read(rs2), offset(pc, distance)),
-        Rv::Bgeu(rs1, rs2, distance) => Effect::Branches(x.read(rs1) >= x.read(rs2), offset(pc, distance)),
-        Rv::Lb(rd, rs1, imm) => Effect::Loads(rd, offset(x.read(rs1), imm), Size::Byte, Extension::Sign),
-        Rv::Lh(rd, rs1, imm) => Effect::Loads(rd, offset(x.read(rs1), imm), Size::Half, Extension::Sign),
-        Rv::Lw(rd, rs1, imm) => Effect::Loads(rd, offset(x.read(rs1), imm), Size::Word, Extension::Zero),
-        Rv::Lbu(rd, rs1, imm) => Effect::Loads(rd, offset(x.read(rs1), imm), Size::Byte, Extension::Zero),
-        Rv::Lhu(rd, rs1, imm) => Effect::Loads(rd, offset(x.read(rs1), imm), Size::Half, Extension::Zero),
+        Rv::Beq(rs1, rs2, distance) => Effect::Branches(
+            x.read(rs1) == x.read(rs2),
+            offset(pc, distance),
+        ),
+        Rv::Bne(rs1, rs2, distance) => Effect::Branches(
+            x.read(rs1) != x.read(rs2),
+            offset(pc, distance),
+        ),
+        Rv::Blt(rs1, rs2, distance) => Effect::Branches(
+            signed(x.read(rs1)) < signed(x.read(rs2)),
+            offset(pc, distance),
+        ),
+        Rv::Bge(rs1, rs2, distance) => Effect::Branches(
+            signed(x.read(rs1)) >= signed(x.read(rs2)),
+            offset(pc, distance),
+        ),
+        Rv::Bltu(rs1, rs2, distance) => Effect::Branches(
+            x.read(rs1) < x.read(rs2),
+            offset(pc, distance),
+        ),
+        Rv::Bgeu(rs1, rs2, distance) => Effect::Branches(
+            x.read(rs1) >= x.read(rs2),
+            offset(pc, distance),
+        ),
+        Rv::Lb(rd, rs1, imm) => Effect::Loads(
+            rd,
+            offset(x.read(rs1), imm),
+            Size::Byte,
+            Extension::Sign,
+        ),
+        Rv::Lh(rd, rs1, imm) => Effect::Loads(
+            rd,
+            offset(x.read(rs1), imm),
+            Size::Half,
+            Extension::Sign,
+        ),
+        Rv::Lw(rd, rs1, imm) => Effect::Loads(
+            rd,
+            offset(x.read(rs1), imm),
+            Size::Word,
+            Extension::Zero,
+        ),
+        Rv::Lbu(rd, rs1, imm) => Effect::Loads(
+            rd,
+            offset(x.read(rs1), imm),
+            Size::Byte,
+            Extension::Zero,
+        ),
+        Rv::Lhu(rd, rs1, imm) => Effect::Loads(
+            rd,
+            offset(x.read(rs1), imm),
+            Size::Half,
+            Extension::Zero,
+        ),
         Rv::Sb(rs1, rs2, imm) => Effect::Stores(offset(x.read(rs1), imm), Size::Byte, x.read(rs2)),
         Rv::Sh(rs1, rs2, imm) => Effect::Stores(offset(x.read(rs1), imm), Size::Half, x.read(rs2)),
         Rv::Sw(rs1, rs2, imm) => Effect::Stores(offset(x.read(rs1), imm), Size::Word, x.read(rs2)),
@@ -82,7 +129,10 @@ pub fn effect_of(pc: u32, x: &Registers, instruction: Rv) -> Effect
         Rv::Mul(rd, rs1, rs2) => Effect::Sets(rd, product(x.read(rs1), x.read(rs2))),
         Rv::Mulh(rd, rs1, rs2) => Effect::Sets(rd, upper_product(x.read(rs1), x.read(rs2))),
         Rv::Mulhsu(rd, rs1, rs2) => Effect::Sets(rd, upper_product_mixed(x.read(rs1), x.read(rs2))),
-        Rv::Mulhu(rd, rs1, rs2) => Effect::Sets(rd, upper_product_unsigned(x.read(rs1), x.read(rs2))),
+        Rv::Mulhu(rd, rs1, rs2) => Effect::Sets(
+            rd,
+            upper_product_unsigned(x.read(rs1), x.read(rs2)),
+        ),
         Rv::Div(rd, rs1, rs2) => Effect::Sets(rd, quotient(x.read(rs1), x.read(rs2))),
         Rv::Divu(rd, rs1, rs2) => Effect::Sets(rd, quotient_unsigned(x.read(rs1), x.read(rs2))),
         Rv::Rem(rd, rs1, rs2) => Effect::Sets(rd, remainder(x.read(rs1), x.read(rs2))),

@@ -1,4 +1,4 @@
-ghost use Rattle.std.specs.Prelude.{◌≡◌, ◌≢◌, ◌+◌, ◌^◌, ◌<◌, ℕ, List, length, IfOk, IsTrue, ◌↔◌};
+ghost use Rattle.std.specs.Prelude.{◌≡◌, ◌≢◌, ◌+◌, ◌^◌, ◌<◌, ◌≤◌, ℕ, List, length, IfOk, IsTrue, ◌↔◌};
 ghost use Rattle.std.specs.Fn.{iterate};
 ghost use Rattle.rv_isa.specs.Memory.{Segments};
 ghost use Rattle.rv_isa.specs.Isa as effect;
@@ -50,7 +50,8 @@ impl Model for Machine {
 impl Machine {
     /// A machine at load of an image, with what can be got. All memory is taken here.
     pub fn load(alloc: Global, image: &Image, input: Text) -> Result<Machine, NoMemory>
-        ensures { IfOk result (λ m. Stands (loaded_segments image.now) m (started (loaded_segments image.now) input)) }
+        ensures state { IfOk result (λ m. Stands (loaded_segments image.now) m (started (loaded_segments image.now) input)) }
+        ensures steps { IfOk result (λ m. m.steps ≡ 0) }
     {
         Ok(Machine {
             memory: Memory::at_load(alloc, image)?,
@@ -68,6 +69,7 @@ impl Machine {
         ensures turn { (s : Segments) (b : Bounded) → Stands s self.old b → Stands s self.new (turned s b) }
         ensures stop { result ≡ told (bounded self.new) }
         ensures stays { self.old.stop ≢ halt.Running → self.new ≡ self.old }
+        ensures steps { self.new.steps ≤ self.old.steps + 1 }
     {
         if !self.is_running() {
             return self.stop;
@@ -83,6 +85,7 @@ impl Machine {
         ensures turns { (s : Segments) (b : Bounded) → Stands s self.old b → Stands s self.new (iterate (turned s) turns b) }
         ensures stop { result ≡ told (bounded self.new) }
         ensures stays { self.old.stop ≢ halt.Running → self.new ≡ self.old }
+        ensures steps { self.new.steps ≤ self.old.steps + turns }
         ensures running { result ≡ halt.Running → self.new.steps ≡ self.old.steps + turns }
     {
         for _turn in 0..turns {

@@ -1,4 +1,4 @@
-ghost use Rattle.std.specs.Prelude.{◌%◌, ◌≤◌, ◌≡◌, length};
+ghost use Rattle.std.specs.Prelude.{◌%◌, ◌≤◌, ◌≡◌, ◌<◌, ◌+◌, ◌^◌, length, IfOk};
 
 use crate::{Machine, Stop};
 use elf_object::Image;
@@ -24,6 +24,7 @@ fn loaded(alloc: Global, text: &[u8]) -> Result<Machine, NoMemory>
     requires least { 16 ≤ length text.now }
     requires most { length text.now ≤ 4194304 }
     requires words { length text.now % 4 ≡ 0 }
+    ensures { IfOk result (λ m. m.steps ≡ 0) }
 {
     let image = Image {
         text: Text::from_slice(alloc, text)?,
@@ -33,105 +34,128 @@ fn loaded(alloc: Global, text: &[u8]) -> Result<Machine, NoMemory>
     Machine::load(alloc, &image, Text::from_slice(alloc, b"h")?)
 }
 
-/// The bytes of a text.
-fn bytes_of(words: [u32; 8]) -> [u8; 32] {
-    let mut bytes = [0; 32];
-    for k in 0..8 {
-        let word = words[k].to_le_bytes();
-        bytes[4 * k] = word[0];
-        bytes[4 * k + 1] = word[1];
-        bytes[4 * k + 2] = word[2];
-        bytes[4 * k + 3] = word[3];
-    }
-    bytes
+/// How a machine with this text stands after so many turns, and how many instructions it carried out.
+fn ran(alloc: Global, text: &[u8], turns: u64) -> Result<(Stop, u64), NoMemory>
+    requires least { 16 ≤ length text.now }
+    requires most { length text.now ≤ 4194304 }
+    requires words { length text.now % 4 ≡ 0 }
+{
+    let mut machine = loaded(alloc, text)?;
+    let stop = machine.run(turns);
+    Ok((stop, machine.steps()))
+}
+
+/// The bytes of a word.
+fn put_word(bytes: &mut [u8; 20], at: usize, word: u32)
+    requires { at < 5 }
+{
+    let word = word.to_le_bytes();
+    bytes[4 * at] = word[0];
+    bytes[4 * at + 1] = word[1];
+    bytes[4 * at + 2] = word[2];
+    bytes[4 * at + 3] = word[3];
+}
+
+/// How a machine with a text of these five words ends.
+fn end(alloc: Global, words: (u32, u32, u32, u32, u32)) -> Result<(Stop, u64), NoMemory> {
+    let mut bytes = [0; 20];
+    put_word(&mut bytes, 0, words.0);
+    put_word(&mut bytes, 1, words.1);
+    put_word(&mut bytes, 2, words.2);
+    put_word(&mut bytes, 3, words.3);
+    put_word(&mut bytes, 4, words.4);
+    ran(alloc, &bytes, 100)
 }
 
 #[test]
 fn programs(rt: HostRuntime) -> Result<(), Fail> {
-    let cases = [
-        (&SEVEN[..], 10, Stop::Exit(7), 10),
-        (&SEVEN[..], 9, Stop::Running, 9),
-        (&SEVEN[..], 11, Stop::Exit(7), 10),
-        (&SILENT[..], 1000, Stop::Running, 1000),
-    ];
-    for (text, turns, stop, steps) in cases {
-        let mut machine = loaded(rt.alloc(), text).ok().ok_or("memory")?;
-        assert_eq!(rt; machine.run(turns), stop);
-        assert_eq!(rt; machine.steps(), steps);
-        assert_eq!(rt; machine.output(), b"".as_slice());
-    }
+    let all = ran(rt.alloc(), &SEVEN, 10).ok().ok_or("memory")?;
+    assert_eq!(rt; all, (Stop::Exit(7), 10));
+    let nearly = ran(rt.alloc(), &SEVEN, 9).ok().ok_or("memory")?;
+    assert_eq!(rt; nearly, (Stop::Running, 9));
+    let silent = ran(rt.alloc(), &SILENT, 1000).ok().ok_or("memory")?;
+    assert_eq!(rt; silent, (Stop::Running, 1000));
     Ok(())
 }
 
-// The words are those of LLVM's assembler, and the answers those of the manual.
+// The words are those of an assembler, and the answers those of the manual.
 #[test]
-fn instructions(rt: HostRuntime) -> Result<(), Fail> {
+fn ends(rt: HostRuntime) -> Result<(), Fail> {
     let cases = [
-        ([0x0000_02b7, 0x0072_8293, 0x0000_0337, 0x0003_0313, 0x0262_c533, 0x0030_0893, 0x0000_0073, 0x0000_0000], Stop::Exit(0xffff_ffff), 7, b"".as_slice()), // div by zero
-        ([0x0000_02b7, 0x0072_8293, 0x0000_0337, 0x0003_0313, 0x0262_d533, 0x0030_0893, 0x0000_0073, 0x0000_0000], Stop::Exit(0xffff_ffff), 7, b"".as_slice()), // divu by zero
-        ([0x0000_02b7, 0xff92_8293, 0x0000_0337, 0x0003_0313, 0x0262_e533, 0x0030_0893, 0x0000_0073, 0x0000_0000], Stop::Exit(0xffff_fff9), 7, b"".as_slice()), // rem by zero
-        ([0x0000_02b7, 0x0072_8293, 0x0000_0337, 0x0003_0313, 0x0262_f533, 0x0030_0893, 0x0000_0073, 0x0000_0000], Stop::Exit(7), 7, b"".as_slice()), // remu by zero
-        ([0x8000_02b7, 0x0002_8293, 0x0000_0337, 0xfff3_0313, 0x0262_c533, 0x0030_0893, 0x0000_0073, 0x0000_0000], Stop::Exit(0x8000_0000), 7, b"".as_slice()), // div overflow
-        ([0x8000_02b7, 0x0002_8293, 0x0000_0337, 0xfff3_0313, 0x0262_e533, 0x0030_0893, 0x0000_0073, 0x0000_0000], Stop::Exit(0), 7, b"".as_slice()), // rem overflow
-        ([0x0000_02b7, 0xff92_8293, 0x0000_0337, 0x0023_0313, 0x0262_c533, 0x0030_0893, 0x0000_0073, 0x0000_0000], Stop::Exit(0xffff_fffd), 7, b"".as_slice()), // div rounds
-        ([0x0000_02b7, 0xff92_8293, 0x0000_0337, 0x0023_0313, 0x0262_e533, 0x0030_0893, 0x0000_0073, 0x0000_0000], Stop::Exit(0xffff_ffff), 7, b"".as_slice()), // rem sign
-        ([0x8000_02b7, 0x0002_8293, 0x0000_0337, 0x0023_0313, 0x0262_9533, 0x0030_0893, 0x0000_0073, 0x0000_0000], Stop::Exit(0xffff_ffff), 7, b"".as_slice()), // mulh
-        ([0x0000_02b7, 0xfff2_8293, 0x0000_0337, 0xfff3_0313, 0x0262_a533, 0x0030_0893, 0x0000_0073, 0x0000_0000], Stop::Exit(0xffff_ffff), 7, b"".as_slice()), // mulhsu
-        ([0x0000_02b7, 0xfff2_8293, 0x0000_0337, 0xfff3_0313, 0x0262_b533, 0x0030_0893, 0x0000_0073, 0x0000_0000], Stop::Exit(0xffff_fffe), 7, b"".as_slice()), // mulhu
-        ([0x8000_02b7, 0x0002_8293, 0x0000_0337, 0x01f3_0313, 0x4062_d533, 0x0030_0893, 0x0000_0073, 0x0000_0000], Stop::Exit(0xffff_ffff), 7, b"".as_slice()), // sra
-        ([0x0070_0513, 0x0030_0893, 0x0000_0073, 0x0000_0000, 0x0000_0000, 0x0000_0000, 0x0000_0000, 0x0000_0000], Stop::Exit(7), 3, b"".as_slice()), // exit word
-        ([0x1000_02b7, 0x0022_a503, 0x0000_0000, 0x0000_0000, 0x0000_0000, 0x0000_0000, 0x0000_0000, 0x0000_0000], Stop::Access(0x1000_0002), 1, b"".as_slice()), // misaligned load
-        ([0x1000_02b7, 0x0062_9503, 0x0030_0893, 0x0000_0073, 0x0000_0000, 0x0000_0000, 0x0000_0000, 0x0000_0000], Stop::Exit(0xffff_8007), 4, b"".as_slice()), // load from data: lh
-        ([0x1000_02b7, 0x0062_d503, 0x0030_0893, 0x0000_0073, 0x0000_0000, 0x0000_0000, 0x0000_0000, 0x0000_0000], Stop::Exit(0x0000_8007), 4, b"".as_slice()), // lhu
-        ([0x1000_02b7, 0x0072_8503, 0x0030_0893, 0x0000_0073, 0x0000_0000, 0x0000_0000, 0x0000_0000, 0x0000_0000], Stop::Exit(0xffff_ff80), 4, b"".as_slice()), // lb
-        ([0x1000_02b7, 0x0072_c503, 0x0030_0893, 0x0000_0073, 0x0000_0000, 0x0000_0000, 0x0000_0000, 0x0000_0000], Stop::Exit(128), 4, b"".as_slice()), // lbu
-        ([0x0001_02b7, 0x0002_a503, 0x0030_0893, 0x0000_0073, 0x0000_0000, 0x0000_0000, 0x0000_0000, 0x0000_0000], Stop::Exit(0x0001_02b7), 4, b"".as_slice()), // lw text
-        ([0x1000_02b7, 0x0082_a503, 0x0000_0000, 0x0000_0000, 0x0000_0000, 0x0000_0000, 0x0000_0000, 0x0000_0000], Stop::Access(0x1000_0008), 1, b"".as_slice()), // behind data
-        ([0x0001_02b7, 0x0052_a423, 0x0000_0000, 0x0000_0000, 0x0000_0000, 0x0000_0000, 0x0000_0000, 0x0000_0000], Stop::Access(0x0001_0008), 1, b"".as_slice()), // store text
-        ([0x1000_02b7, 0xffe0_0313, 0x0062_9123, 0x0002_a503, 0x0030_0893, 0x0000_0073, 0x0000_0000, 0x0000_0000], Stop::Exit(0xfffe_0201), 6, b"".as_slice()), // store data
-        ([0xffe0_0313, 0xfe61_0fa3, 0xffc1_2503, 0x0030_0893, 0x0000_0073, 0x0000_0000, 0x0000_0000, 0x0000_0000], Stop::Exit(0xfe00_0000), 5, b"".as_slice()), // stack store load
-        ([0x0001_2503, 0x0000_0000, 0x0000_0000, 0x0000_0000, 0x0000_0000, 0x0000_0000, 0x0000_0000, 0x0000_0000], Stop::Access(0x7fff_f000), 0, b"".as_slice()), // stack end
-        ([0x7fef_f2b7, 0xffc2_a503, 0x0000_0000, 0x0000_0000, 0x0000_0000, 0x0000_0000, 0x0000_0000, 0x0000_0000], Stop::Stack(0x7fef_effc), 1, b"".as_slice()), // guard
-        ([0x7fef_f2b7, 0xfe52_af23, 0x0000_0000, 0x0000_0000, 0x0000_0000, 0x0000_0000, 0x0000_0000, 0x0000_0000], Stop::Stack(0x7fef_effe), 1, b"".as_slice()), // guard store, misaligned
-        ([0x7fed_f2b7, 0xffc2_a503, 0x0000_0000, 0x0000_0000, 0x0000_0000, 0x0000_0000, 0x0000_0000, 0x0000_0000], Stop::Access(0x7fed_effc), 1, b"".as_slice()), // below guard
-        ([0x7fed_f2b7, 0xffe2_a503, 0x0000_0000, 0x0000_0000, 0x0000_0000, 0x0000_0000, 0x0000_0000, 0x0000_0000], Stop::Stack(0x7fed_effe), 1, b"".as_slice()), // into guard from below
-        ([0x07e0_00e7, 0x0000_0000, 0x0000_0000, 0x0000_0000, 0x0000_0000, 0x0000_0000, 0x0000_0000, 0x0000_0000], Stop::Access(126), 1, b"".as_slice()), // jalr misaligned
-        ([0x00a0_006f, 0x0000_0000, 0x0000_0000, 0x0000_0000, 0x0000_0000, 0x0000_0000, 0x0000_0000, 0x0000_0000], Stop::Access(0x0001_000a), 1, b"".as_slice()), // jump to 2 mod 4
-        ([0x0300_006f, 0x0000_0000, 0x0000_0000, 0x0000_0000, 0x0000_0000, 0x0000_0000, 0x0000_0000, 0x0000_0000], Stop::Access(0x0001_0030), 1, b"".as_slice()), // text end
-        ([0x7fee_d2b7, 0x0002_8067, 0x0000_0000, 0x0000_0000, 0x0000_0000, 0x0000_0000, 0x0000_0000, 0x0000_0000], Stop::Stack(0x7fee_d000), 2, b"".as_slice()), // fetch guard
-        ([0xffff_ffff, 0x0000_0000, 0x0000_0000, 0x0000_0000, 0x0000_0000, 0x0000_0000, 0x0000_0000, 0x0000_0000], Stop::Illegal(0xffff_ffff), 0, b"".as_slice()), // illegal
-        ([0x0010_0073, 0x0000_0000, 0x0000_0000, 0x0000_0000, 0x0000_0000, 0x0000_0000, 0x0000_0000, 0x0000_0000], Stop::Illegal(0x0010_0073), 0, b"".as_slice()), // ebreak
-        ([0x0090_0893, 0x0000_0073, 0x0000_0000, 0x0000_0000, 0x0000_0000, 0x0000_0000, 0x0000_0000, 0x0000_0000], Stop::BadCall(9), 1, b"".as_slice()), // bad call
-        ([0x0000_0073, 0x0000_0000, 0x0000_0000, 0x0000_0000, 0x0000_0000, 0x0000_0000, 0x0000_0000, 0x0000_0000], Stop::BadCall(0), 0, b"".as_slice()), // bad call 0
-        ([0x3410_0513, 0x0010_0893, 0x0000_0073, 0x0005_1263, 0x0030_0893, 0x0000_0073, 0x0000_0000, 0x0000_0000], Stop::Exit(65), 6, b"A".as_slice()), // put
-        ([0x0020_0893, 0x0000_0073, 0x0010_0893, 0x0000_0073, 0x0020_0893, 0x0000_0073, 0x0030_0893, 0x0000_0073], Stop::Exit(0xffff_ffff), 8, b"h".as_slice()), // get two
-        ([0x0050_0013, 0x0010_0513, 0x0030_0893, 0x0000_0073, 0x0000_0000, 0x0000_0000, 0x0000_0000, 0x0000_0000], Stop::Exit(1), 4, b"".as_slice()), // x0
+        (
+            (0x1000_02b7, 0x0022_a503, 0, 0, 0),
+            Stop::Access(0x1000_0002),
+            1,
+        ), // lui x5; lw x10, 2(x5)
+        (
+            (0x7fef_f2b7, 0xffc2_a503, 0, 0, 0),
+            Stop::Stack(0x7fef_effc),
+            1,
+        ), // lui x5; lw x10, -4(x5)
+        ((0xffff_ffff, 0, 0, 0, 0), Stop::Illegal(0xffff_ffff), 0),
+        ((0x0010_0073, 0, 0, 0, 0), Stop::Illegal(0x0010_0073), 0), // ebreak
+        ((0x0090_0893, 0x0000_0073, 0, 0, 0), Stop::BadCall(9), 1), // addi x17, x0, 9; ecall
+        (
+            (0x0070_0513, 0x0205_4533, 0x0030_0893, 0x0000_0073, 0),
+            Stop::Exit(0xffff_ffff),
+            4,
+        ), // 7 div 0
+        (
+            (0x0070_0513, 0x0205_6533, 0x0030_0893, 0x0000_0073, 0),
+            Stop::Exit(7),
+            4,
+        ), // 7 rem 0
+        (
+            (
+                0x8000_0537,
+                0xfff0_0313,
+                0x0265_4533,
+                0x0030_0893,
+                0x0000_0073,
+            ),
+            Stop::Exit(0x8000_0000),
+            5,
+        ), // div overflows
+        (
+            (
+                0x8000_0537,
+                0xfff0_0313,
+                0x0265_6533,
+                0x0030_0893,
+                0x0000_0073,
+            ),
+            Stop::Exit(0),
+            5,
+        ), // rem of it
     ];
-    for (words, stop, steps, output) in cases {
-        let text = bytes_of(words);
-        let mut machine = loaded(rt.alloc(), &text).ok().ok_or("memory")?;
-        assert_eq!(rt; machine.run(100), stop);
-        assert_eq!(rt; machine.steps(), steps);
-        assert_eq!(rt; machine.output(), output);
+    for (words, stop, steps) in cases {
+        let found = end(rt.alloc(), words).ok().ok_or("memory")?;
+        assert_eq!(rt; found, (stop, steps));
     }
     Ok(())
 }
 
-// A program that puts bytes without end, one in each three instructions.
+/// Puts bytes, one in each two turns, and then takes one turn more: how the machine stood before and after
+/// it, how many instructions it carried out, and how many bytes it put.
+fn put_on(alloc: Global, turns: u64) -> Result<(Stop, Stop, u64, usize), NoMemory>
+    requires { turns + 1 < 2 ^ 64 }
+{
+    let text = [
+        0x93, 0x08, 0x10, 0x00, 0x73, 0x00, 0x00, 0x00, 0x6f, 0xf0, 0xdf, 0xff, 0, 0, 0, 0,
+    ];
+    let mut machine = loaded(alloc, &text)?;
+    let before = machine.run(turns);
+    let after = machine.step();
+    Ok((before, after, machine.steps(), machine.output().len()))
+}
+
+// The byte that finds no room stops the machine.
 #[test]
 fn a_full_output(rt: HostRuntime) -> Result<(), Fail> {
-    let text = bytes_of([0x0010_0893, 0x0000_0073, 0xffdf_f06f, 0, 0, 0, 0, 0]);
-    let mut machine = loaded(rt.alloc(), &text).ok().ok_or("memory")?;
-    assert_eq!(rt; machine.run(2_097_153), Stop::Running);
-    assert_eq!(rt; machine.step(), Stop::OutputFull);
-    assert_eq!(rt; machine.step(), Stop::OutputFull);
-    assert_eq!(rt; machine.steps(), 2_097_153);
-    assert_eq!(rt; machine.output().len(), 1_048_576);
-    Ok(())
-}
-
-    let text = bytes_of([0x0010_02b7, 0xfff2_8293, 0x0053_0333, 0x0063_c3b3, 0xfe71_2e23, 0xffc1_2403, 0xfe02_98e3, 0]);
-    let mut machine = loaded(rt.alloc(), &text).ok().ok_or("memory")?;
-    assert_eq!(rt; machine.run(1_000_000_000), Stop::Running);
+    let found = put_on(rt.alloc(), 2_097_153).ok().ok_or("memory")?;
+    assert_eq!(rt;
+        found,
+        (Stop::Running, Stop::OutputFull, 2_097_153, 1_048_576)
+    );
     Ok(())
 }

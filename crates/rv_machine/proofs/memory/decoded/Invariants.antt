@@ -1,4 +1,4 @@
-use Rattle.std.proofs.Common.{◌≡◌, ℕ, ◌*◌, ◌<◌, length, Option, None, slice_index_or}
+use Rattle.std.proofs.Common.{◌≡◌, ℕ, ◌*◌, ◌<◌, length, None, slice_index_or}
 use Rattle.rv_isa.specs.Decode.{decode_of}
 use Rattle.rv_isa.specs.Memory.{read}
 use Rattle.rv_machine.specs.Bytes.{held}

@@ -1,4 +1,4 @@
-use Rattle.std.proofs.Common.{rules, ◌≡◌, ◌≢◌, ◌+◌, ◌≤◌, ◌∙◌, ap, sym, subst, arith}
+use Rattle.std.proofs.Common.{rules, ◌≡◌, ◌≢◌, ◌≤◌, ◌∙◌, ap, sym, subst, arith}
 use Rattle.std.specs.Fn.{iterate}
 use Rattle.rv_machine.specs.State.{Stands, turned}
 use Rattle.rv_machine.specs.declared.stop.Stop.TheVariants.{Running}
