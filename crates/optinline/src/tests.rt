@@ -15,6 +15,15 @@ const SEVEN_TEXT: [u8; 40] = [
     0x13, 0x01, 0x01, 0x01, 0x67, 0x80, 0x00, 0x00,
 ];
 
+/// The text of the program that adds and subtracts.
+const SUM_TEXT: [u8; 72] = [
+    0x97, 0x00, 0x00, 0x00, 0xe7, 0x80, 0x00, 0x01, 0x93, 0x08, 0x30, 0x00, 0x73, 0x00, 0x00, 0x00,
+    0x13, 0x01, 0x01, 0xff, 0x23, 0x20, 0x11, 0x00, 0x93, 0x02, 0x20, 0x00, 0x13, 0x03, 0x30, 0x00,
+    0xb3, 0x82, 0x62, 0x00, 0x23, 0x22, 0x51, 0x00, 0x83, 0x22, 0x41, 0x00, 0x13, 0x03, 0x10, 0x00,
+    0xb3, 0x82, 0x62, 0x40, 0x23, 0x24, 0x51, 0x00, 0x03, 0x25, 0x81, 0x00, 0x83, 0x20, 0x01, 0x00,
+    0x13, 0x01, 0x01, 0x01, 0x67, 0x80, 0x00, 0x00,
+];
+
 fn words(alloc: Global, text: &str) -> Result<Vec<String>, Fail> {
     let mut words = Vec::new(alloc);
     for word in text.split(' ') {
@@ -69,7 +78,7 @@ fn programs_are_built(rt: HostRuntime) -> Result<(), Fail> {
 }
 
 #[test]
-fn the_object_that_returns_seven(rt: HostRuntime) -> Result<(), Fail> {
+fn objects_have_their_bytes(rt: HostRuntime) -> Result<(), Fail> {
     let alloc = rt.alloc();
     let build = words(alloc, "build m o d c 1")?;
     let mut desk = MemDesk::new(alloc, Vec::new(alloc));
@@ -78,6 +87,12 @@ fn the_object_that_returns_seven(rt: HostRuntime) -> Result<(), Fail> {
     let object = desk.file("o").ok_or("no object")?;
     assert_eq!(rt; object.len(), 8512);
     assert_eq!(rt; &object[4096..4136], SEVEN_TEXT.as_slice());
+    let mut other = MemDesk::new(alloc, Vec::new(alloc));
+    other.put_file("m", SUM.as_bytes())?;
+    assert_eq!(rt; tool(alloc, build.as_slice(), &mut other), 0);
+    let object = other.file("o").ok_or("no object")?;
+    assert_eq!(rt; object.len(), 8512);
+    assert_eq!(rt; &object[4096..4168], SUM_TEXT.as_slice());
     Ok(())
 }
 
