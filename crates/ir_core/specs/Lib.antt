@@ -8,5 +8,13 @@ pub mod Parts
 pub mod Proper
 pub mod Rows
 pub mod Sizes
+pub mod Stands
+pub mod Valid
+pub mod ValidConsts
+pub mod ValidFunc
+pub mod ValidModule
+pub mod ValidOps
+pub mod ValidPaths
+pub mod ValidTypes
 pub mod Weight
 pub mod Words

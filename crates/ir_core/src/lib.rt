@@ -14,6 +14,7 @@ mod sizes;
 #[cfg(test)]
 mod tests;
 mod ty;
+mod verified;
 mod weigh;
 
 pub use constant::{Const, Indices, TypedConst, TypedConsts, TypedCount};
@@ -32,4 +33,5 @@ pub use op::{
 pub use short::Short;
 pub use sizes::{TypeTooLarge, align_of, field_offset, size_of};
 pub use ty::{IrType, TypeDef, TypeName, Types};
+pub use verified::Verified;
 pub use weigh::weight;
