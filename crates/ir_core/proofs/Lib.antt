@@ -7,3 +7,5 @@ pub mod Layouts
 pub mod Measured
 pub mod Names
 pub mod RowExamples
+pub mod RuleExamples
+pub mod ValidExample

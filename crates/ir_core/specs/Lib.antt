@@ -1,5 +1,6 @@
 pub mod Acyclic
 pub mod Capped
+pub mod FirstBroken
 pub mod Flat
 pub mod Formed
 pub mod Known

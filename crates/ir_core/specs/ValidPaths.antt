@@ -1,5 +1,5 @@
 -- The rules of control flow: phis and their predecessors, and definitions on every path to a use.
-use Rattle.std.specs.Prelude.{◌≡◌, ◌⊎◌, ℕ, ◌+◌, ◌<◌, List, [], ◌∷◌, ◌++◌, length, Some, slice_get, Contains}
+use Rattle.std.specs.Prelude.{◌≡◌, ◌⊎◌, ℕ, suc, ◌<◌, List, [], ◌∷◌, ◌++◌, length, Some, slice_get, Contains}
 use Rattle.std.specs.List.{flat_map}
 use Rattle.oi_base.specs.declared.ids.Place.{Place}
 use Rattle.ir_core.specs.declared.ty.TypeDef.{TypeDef}
@@ -47,7 +47,7 @@ IsSuccessor f a b = (k l : Block) × IsBlockOf f a k × IsBlockOf f b l × Conta
 -- positions of blocks, the entry's first, each that of a successor of the one before
 abbrev pub IsPathOf : Func → List ℕ → Type 0
 IsPathOf f path =
-    (slice_get path 0 ≡ Some 0) × ((n a b : ℕ) → slice_get path n ≡ Some a → slice_get path (n + 1) ≡ Some b → IsSuccessor f a b)
+    (slice_get path 0 ≡ Some 0) × ((n a b : ℕ) → slice_get path n ≡ Some a → slice_get path (suc n) ≡ Some b → IsSuccessor f a b)
 
 -- one of the first n instructions of a block writes the register
 abbrev pub Writes : Block → ℕ → LocalId → Type 0
