@@ -8,4 +8,5 @@ pub mod Measured
 pub mod Names
 pub mod RowExamples
 pub mod RuleExamples
+pub mod TypeRuleExamples
 pub mod ValidExample

@@ -5,7 +5,8 @@ ghost use Rattle.ir_core.specs.Valid.{IsValid};
 use crate::module::Module;
 use std::marker::Model;
 
-/// A module that meets all rules of the accepted IR. Contracts see it as the module.
+/// A module that is proper, as each one that was read from a text is, and that breaks no rule of the accepted IR
+/// at any place (docs/RULES.md). Contracts see it as the module.
 #[derive(Drop)]
 pub struct Verified {
     module: Module,
@@ -27,6 +28,7 @@ impl Model for Verified {
 }
 
 impl Verified {
+    /// The module as a verified one; that both hold of it is the condition.
     pub fn of(module: Module) -> Verified
         requires proper { IsProper «module» }
         requires valid { IsValid «module» }
@@ -35,7 +37,7 @@ impl Verified {
         Verified { module }
     }
 
-    /// The module, of which no rule is broken at any place.
+    /// The module, of which both hold.
     pub fn module(&self) -> &Module
         ensures same { result.now ≡ self.now }
         ensures proper { IsProper self.now }
