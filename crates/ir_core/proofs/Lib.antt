@@ -6,6 +6,7 @@ pub mod Laying
 pub mod Layouts
 pub mod Measured
 pub mod Names
+pub mod Outputs
 pub mod RowExamples
 pub mod RuleExamples
 pub mod TypeRuleExamples

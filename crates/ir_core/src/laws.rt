@@ -1,4 +1,6 @@
-ghost use Rattle.std.specs.Prelude.{◌≡◌, Bool, Some, IsTrue, Contains};
+ghost use Rattle.std.specs.Prelude.{◌≡◌, ◌≢◌, ◌+◌, ℕ, List, Bool, Some, IsTrue, Contains};
+ghost use Rattle.oi_base.specs.Follows.{Going, Undefined, IsPrefix};
+ghost use Rattle.ir_core.specs.Flat.{Program, flat_run};
 ghost use Rattle.ir_core.specs.declared.ty.TypeName.{TypeName};
 ghost use Rattle.ir_core.specs.declared.ty.TypeDef.{TypeDef};
 ghost use Rattle.ir_core.specs.Sizes.{definition, IsLaid};
@@ -20,4 +22,12 @@ pub fn types_with_layouts_are_acyclic(defs: &TypeDefs, t: &IrType)
     ensures no_void { IsLaid defs.now t.now → HasNoVoid t.now }
     ensures defined { IsLaid defs.now t.now → (x : TypeName) → Contains (names_in_type t.now) x → (d : TypeDef) × (definition defs.now x ≡ Some d) × IsLaid defs.now d.ty }
     ensures no_cycle { IsLaid defs.now t.now → (x : TypeName) → Contains (names_in_type t.now) x → HoldsItself defs.now x → ⊥ }
+{}
+
+/// What a run of flat bodies has put is never taken back, a run that doesn't go on stays as it is, and the turn at which a
+/// run becomes undefined leaves its output.
+pub fn flat_output_only_grows()
+    ensures grows { (p : Program) (input : List ℕ) (m n : ℕ) → IsPrefix (flat_run p input m).output (flat_run p input (m + n)).output }
+    ensures stays { (p : Program) (input : List ℕ) (m n : ℕ) → (flat_run p input m).status ≢ Going → flat_run p input (m + n) ≡ flat_run p input m }
+    ensures undefined { (p : Program) (input : List ℕ) (m : ℕ) → (flat_run p input (m + 1)).status ≡ Undefined → (flat_run p input (m + 1)).output ≡ (flat_run p input m).output }
 {}

@@ -24,7 +24,9 @@ pub use flat::{
     FlatCode, FlatEnd, FlatInstr, FlatOp, Phi, Phis, Scalar, Term, Terms,
 };
 pub use func::{Block, Blocks, Func, Funcs, Instr, Instrs, Param, Params};
-pub use laws::{acyclic_types_have_layouts, types_with_layouts_are_acyclic};
+pub use laws::{
+    acyclic_types_have_layouts, flat_output_only_grows, types_with_layouts_are_acyclic,
+};
 pub use layout::LARGEST;
 pub use module::{Declaration, Declared, GlobalVar, Globals, Module, NamedTypes, SymId, Texts};
 pub use op::{
