@@ -1,0 +1,9 @@
+pub mod Entries
+pub mod Equal
+pub mod Lookups
+pub mod Loop
+pub mod Printed
+pub mod Searched
+pub mod SoFar
+pub mod Split
+pub mod Undecided

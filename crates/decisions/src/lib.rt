@@ -1,0 +1,16 @@
+//! Which call sites are inlined: whole and partial maps from candidate sites to labels, and their text.
+#![tactic(auto)]
+
+mod faults;
+mod maps;
+mod places;
+mod printing;
+mod reading;
+
+pub use faults::DecisionFault;
+pub use maps::{Decisions, Label, Partial};
+pub use printing::print_decisions;
+pub use reading::read_decisions;
+
+#[cfg(test)]
+mod tests;
