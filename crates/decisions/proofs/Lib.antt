@@ -1,5 +1,6 @@
 pub mod Entries
 pub mod Equal
+pub mod InForm
 pub mod Lookups
 pub mod Loop
 pub mod Printed

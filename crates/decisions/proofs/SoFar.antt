@@ -49,7 +49,7 @@ pub undecided_over : (sites : List SiteId) (stated : List (SiteId × Label)) →
 undecided_over [] stated = refl
 undecided_over (x ∷ xs) stated = undecided_by (label_of stated x) x (first_undecided (over xs stated)) (find (λ s. is_none (label_of stated s)) xs) (undecided_over xs stated)
 
-ascending_tail : (x : SiteId) (xs : List SiteId) → IsAscending (x ∷ xs) → IsAscending xs
+pub ascending_tail : (x : SiteId) (xs : List SiteId) → IsAscending (x ∷ xs) → IsAscending xs
 ascending_tail x xs h i j d lt in_range = h (suc i) (suc j) d (omega arith) (omega arith)
 
 among_at : (xs : List SiteId) (s : SiteId) → is_among xs s ≡ true → (i : ℕ) × (i < length xs) × (let y = get_or xs i s in y.0 ≡ s.0)
@@ -63,7 +63,7 @@ among_at (x ∷ xs) s h = by_first (λ k. among_at xs s k) (x.0 == s.0) refl h
     by_first in_tail true e k = (0, omega arith, grind (arith, nat_tests))
     by_first in_tail false e k = shifted (in_tail k)
 
-above_first : (x : SiteId) (xs : List SiteId) → IsAscending (x ∷ xs) → (s : SiteId) → is_among xs s ≡ true → (x.0 == s.0) ≡ false
+pub above_first : (x : SiteId) (xs : List SiteId) → IsAscending (x ∷ xs) → (s : SiteId) → is_among xs s ≡ true → (x.0 == s.0) ≡ false
 above_first x xs up s h =
     let p = among_at xs s h in
     let k = up 0 (suc p.0) s (omega arith) (omega (arith, p.1)) in
@@ -81,11 +81,11 @@ rest_by false l o f e h = h
 pub same_number : (x : SiteId) → (x.0 == x.0) ≡ true
 same_number x = grind (arith, nat_tests)
 
-or_left : (t u : Bool) → t ≡ true → (t || u) ≡ true
+pub or_left : (t u : Bool) → t ≡ true → (t || u) ≡ true
 or_left true u e = refl
 or_left false u e = cc
 
-or_right : (t u : Bool) → u ≡ true → (t || u) ≡ true
+pub or_right : (t u : Bool) → u ≡ true → (t || u) ≡ true
 or_right true u e = refl
 or_right false u e = e
 

@@ -1,5 +1,5 @@
 -- What a text states, and the first fault of a text that is no map's.
-use Rattle.std.specs.Prelude.{◌≡◌, ℕ, ◌+◌, Bool, false, not, ◌&&◌, ◌||◌, List, [], ◌∷◌, ◌++◌, if◌then◌else◌, ◌==◌, nat_lt, bytes_eq, take_while, find, is_some, is_none, Option, Some, None, option_map, option_to_list}
+use Rattle.std.specs.Prelude.{◌≡◌, ℕ, ◌+◌, ◌<◌, Bool, true, false, not, ◌&&◌, ◌||◌, List, [], ◌∷◌, ◌++◌, if◌then◌else◌, ◌==◌, nat_lt, bytes_eq, take_while, find, is_some, is_none, Option, Some, None, option_map, option_to_list}
 use Rattle.std.specs.List.{onto_first}
 use Rattle.std.specs.Str.Parse.{digits_value}
 use Rattle.oi_base.specs.declared.ids.SiteId.{SiteId}
@@ -56,6 +56,10 @@ fault_from candidates earlier n (line ∷ lines) =
 -- the first fault of a text over these candidates
 abbrev pub first_fault : List SiteId → List ℕ → Option DecisionFault
 first_fault candidates bytes = fault_from candidates [] 1 (lines_of bytes)
+
+-- each site's number has 32 bits
+abbrev pub HaveWords : List SiteId → Type 0
+HaveWords sites = (s : SiteId) → is_among sites s ≡ true → s.0 < 4294967296
 
 -- no site comes twice
 abbrev pub HasNoRepeats : List (SiteId × Label) → Type 0

@@ -1,4 +1,5 @@
 ghost use Rattle.std.specs.Prelude.{◌≡◌, ◌++◌, IfOk, OnOk, length, zip};
+ghost use Rattle.decisions.specs.Reading.{IsTextOf};
 ghost use Rattle.decisions.specs.Text.{line_of, tail_of, text_of};
 
 use crate::maps::{Decisions, Label};
@@ -7,7 +8,8 @@ use std::alloc::Global;
 
 /// The text of a map: for each candidate, ascending, its number in decimal, a space, its label and a line feed.
 pub fn print_decisions(alloc: Global, d: &Decisions) -> Result<Vec<u8>, NoMemory>
-    ensures { IfOk result (λ text. text.items ≡ text_of d.now) }
+    ensures text { IfOk result (λ text. text.items ≡ text_of d.now) }
+    ensures form { IfOk result (λ text. IsTextOf text.items d.now) }
 {
     lines(alloc, d.sites(), d.labels())
 }

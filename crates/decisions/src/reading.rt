@@ -1,11 +1,11 @@
-ghost use Rattle.std.specs.Prelude.{◌≡◌, ◌≢◌, ◌<◌, ◌≤◌, ℕ, IfOk, IfErr, OnOk, IfSome, IfNone, IsTrue, ◌↔◌, length, None, Some, option_map, decimal, position, ◌==◌};
+ghost use Rattle.std.specs.Prelude.{◌≡◌, ◌≢◌, ◌<◌, ◌≤◌, ℕ, IfOk, IfErr, OnOk, IfSome, IfNone, IsTrue, ◌↔◌, length, List, None, Some, option_map, decimal, position, ◌==◌};
 ghost use Rattle.std.specs.List.{position_or_len};
 ghost use Rattle.oi_base.specs.declared.ids.SiteId.{SiteId};
 ghost use Rattle.decisions.specs.declared.faults.DecisionFault.TheVariants as faults;
 ghost use Rattle.decisions.specs.declared.maps.Label.{Label};
 ghost use Rattle.decisions.specs.Maps.{sites_of, decided, IsAscending};
 ghost use Rattle.decisions.specs.Text.{line_of};
-ghost use Rattle.decisions.specs.Reading.{lines_of, entry_of, first_fault, IsTextOf};
+ghost use Rattle.decisions.specs.Reading.{lines_of, entry_of, first_fault, HaveWords, IsTextOf};
 ghost use Rattle.decisions.specs.Steps.{Takes, first_undecided};
 ghost use Rattle.decisions.specs.Ends.{end_of};
 
@@ -29,6 +29,8 @@ pub fn read_decisions(
     ensures text { IfOk result (IsTextOf bytes.now) }
     ensures sound { OnOk result (first_fault candidates.now bytes.now ≡ None) }
     ensures fault { IfErr result (λ e. e ≢ faults.NoMemory → first_fault candidates.now bytes.now ≡ Some e) }
+    ensures complete { IfErr result (λ e. e ≢ faults.NoMemory → (d : List (SiteId × Label)) → HaveWords (sites_of d) → sites_of d ≡ candidates.now → IsTextOf bytes.now d → ⊥) }
+    ensures only { IfOk result (λ d. (other : List (SiteId × Label)) → HaveWords (sites_of other) → sites_of other ≡ candidates.now → IsTextOf bytes.now other → d ≡ other) }
 {
     let mut map = Partial::start(alloc, candidates)?;
     let mut rest = bytes;

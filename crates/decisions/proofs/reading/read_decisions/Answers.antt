@@ -7,6 +7,7 @@ use Rattle.oi_base.specs.declared.ids.SiteId.{SiteId}
 use Rattle.decisions.specs.declared.faults.DecisionFault.TheVariants.{Missing}
 use Rattle.decisions.proofs.Split.{end_above}
 use Rattle.decisions.proofs.Loop.{step, stops_at, ends_missing, ends_sites, ends_text}
+use Rattle.decisions.proofs.InForm.{no_text, one_map}
 use Rattle.decisions.proofs.reading.read_decisions.Goals as goal
 
 pub returns-in_err-take_line-clause-fault : goal.returns-in_err-take_line-clause-fault
@@ -51,3 +52,14 @@ pub returns-clause-fault : goal.returns-clause-fault
 returns-clause-fault c =
     let none : length c.lines.rest.now ≡ 0 = grind (arith, nat_tests) in
     MatchResult-weaker c.whole_map.result c.whole_map.ensures.missing (λ d u. u) (λ e h other. ends_missing c.args.candidates.now c.args.bytes.now c.lines.number c.lines.rest.now c.lines.map c.lines.invariant.state none ∙ h other)
+
+pub returns-in_err-take_line-clause-complete : goal.returns-in_err-take_line-clause-complete
+returns-in_err-take_line-clause-complete c = MatchResult-weaker c.from_residual-in_err-take_line.result (returns-in_err-take_line-clause-fault c) (λ d u. u) (λ e h other. no_text c.args.candidates.now c.args.bytes.now e (h other))
+
+pub returns-clause-complete : goal.returns-clause-complete
+returns-clause-complete c = MatchResult-weaker c.whole_map.result (returns-clause-fault c) (λ d u. u) (λ e h other. no_text c.args.candidates.now c.args.bytes.now e (h other))
+
+pub returns-clause-only : goal.returns-clause-only
+returns-clause-only c =
+    let none : length c.lines.rest.now ≡ 0 = grind (arith, nat_tests) in
+    IfOk-weaker c.whole_map.result _ _ (λ d h. one_map c.args.candidates.now c.args.bytes.now d c.requires.ascending (ends_sites c.args.candidates.now c.args.bytes.now c.lines.number c.lines.rest.now c.lines.map d c.lines.invariant.state h.1) (ends_text c.args.candidates.now c.args.bytes.now c.lines.number c.lines.rest.now c.lines.map d c.lines.invariant.state none h.1)) c.whole_map.ensures.whole
