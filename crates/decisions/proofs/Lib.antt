@@ -3,6 +3,7 @@ pub mod Equal
 pub mod InForm
 pub mod Lookups
 pub mod Loop
+pub mod OneMap
 pub mod Printed
 pub mod Searched
 pub mod SoFar

@@ -7,7 +7,8 @@ use Rattle.oi_base.specs.declared.ids.SiteId.{SiteId}
 use Rattle.decisions.specs.declared.faults.DecisionFault.TheVariants.{Missing}
 use Rattle.decisions.proofs.Split.{end_above}
 use Rattle.decisions.proofs.Loop.{step, stops_at, ends_missing, ends_sites, ends_text}
-use Rattle.decisions.proofs.InForm.{no_text, one_map}
+use Rattle.decisions.proofs.InForm.{no_text}
+use Rattle.decisions.proofs.OneMap.{one_map}
 use Rattle.decisions.proofs.reading.read_decisions.Goals as goal
 
 pub returns-in_err-take_line-clause-fault : goal.returns-in_err-take_line-clause-fault
