@@ -11,3 +11,10 @@ pub mod RowExamples
 pub mod RuleExamples
 pub mod TypeRuleExamples
 pub mod ValidExample
+pub mod Renamed
+pub mod Lists
+pub mod Written
+pub mod Sound
+pub mod Alike
+pub mod SourceRuns
+pub mod SoundRules

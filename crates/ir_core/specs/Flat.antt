@@ -1,5 +1,5 @@
 -- Runs of flat bodies.
-use Rattle.std.specs.Prelude.{ℕ, ◌+◌, ◌%◌, Bool, true, false, nat_eq, if◌then◌else◌, List, [], ◌∷◌, ◌++◌, length, Option, Some, None, slice_get}
+use Rattle.std.specs.Prelude.{ℕ, ◌+◌, ◌%◌, Bool, true, false, nat_eq, if◌then◌else◌, List, [], ◌∷◌, ◌++◌, length, take, Option, Some, None, slice_get}
 use Rattle.oi_base.specs.declared.ids.RegId.{RegId}
 use Rattle.oi_base.specs.declared.ids.BlockId.{BlockId}
 use Rattle.ir_core.specs.declared.flat.FlatOp.{FlatOp}
@@ -191,10 +191,11 @@ abbrev pub at_most_one : Option (Option Value) → Option Value
 at_most_one None = None
 at_most_one (Some v) = v
 
+-- a callee begins with its parameters, which are its first registers
 abbrev pub entered : Run → ℕ → List (Option Value) → Option RegId → Option FlatBody → Run
 entered r f args waiting None = ends r Stuck
 entered r f args waiting (Some b) = record r {
-  top = record { func = f; block = 0; place = 0; regs = λ q. at_most_one (slice_get args q); made = []; waiting = waiting };
+  top = record { func = f; block = 0; place = 0; regs = λ q. at_most_one (slice_get (take b.params args) q); made = []; waiting = waiting };
   below = (record r.top { place = r.top.place + 1 }) ∷ r.below;
 }
 

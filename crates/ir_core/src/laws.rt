@@ -6,6 +6,9 @@ ghost use Rattle.ir_core.specs.declared.ty.TypeDef.{TypeDef};
 ghost use Rattle.ir_core.specs.Sizes.{definition, IsLaid};
 ghost use Rattle.ir_core.specs.Parts.{names_in_type};
 ghost use Rattle.ir_core.specs.Acyclic.{HasNoVoid, HoldsItself, IsAcyclic};
+ghost use Rattle.ir_core.specs.declared.module.Module as modules;
+ghost use Rattle.ir_core.specs.Valid.{IsValid};
+ghost use Rattle.ir_core.specs.Plain.{RunsAsTheSource};
 
 use crate::defs::TypeDefs;
 use crate::ty::IrType;
@@ -30,4 +33,10 @@ pub fn flat_output_only_grows()
     ensures grows { (p : Program) (input : List ℕ) (m n : ℕ) → IsPrefix (flat_run p input m).output (flat_run p input (m + n)).output }
     ensures stays { (p : Program) (input : List ℕ) (m n : ℕ) → (flat_run p input m).status ≢ Going → flat_run p input (m + n) ≡ flat_run p input m }
     ensures undefined { (p : Program) (input : List ℕ) (m : ℕ) → (flat_run p input (m + 1)).status ≡ Undefined → (flat_run p input (m + 1)).output ≡ (flat_run p input m).output }
+{}
+
+/// Where a module breaks no rule, the run of its plain flat bodies is the module's own run: after any number of turns
+/// both have the same output, status and depth. It does nothing: its contract is the law.
+pub fn plain_bodies_run_as_the_source()
+    ensures { (m : modules.Module) → IsValid m → RunsAsTheSource m }
 {}
