@@ -1,29 +1,27 @@
 -- When a run of a module and one of its plain bodies stand alike.
-use Rattle.std.proofs.Common.{◌≡◌, ◌≢◌, ℕ, zero, suc, ◌+◌, ◌<◌, ◌==◌, nat_eq, Bool, true, false, if◌then◌else◌, List, [], ◌∷◌, map, length, drop, Option, Some, None, slice_get, refl, sym, ap, ◌∙◌, subst, arith}
-use Rattle.std.specs.List.{filter_map, cons_option, find, position_or_len}
+use Rattle.std.proofs.Common.{◌≡◌, ◌≢◌, ℕ, zero, suc, ◌+◌, ◌<◌, nat_eq, Bool, true, false, if◌then◌else◌, List, [], ◌∷◌, map, length, drop, Option, Some, None, slice_get, refl, sym, ap, ◌∙◌, subst, arith}
+use Rattle.std.specs.List.{filter_map, cons_option, find}
 use Rattle.std.specs.Option.{option_map, option_and_then}
 use Rattle.std.proofs.lemmas.Bool.Decides.{nat_tests}
 use Rattle.std.proofs.lemmas.List.Folds.{find_at}
 use Rattle.std.proofs.lemmas.Option.{slice_get-map}
 use Rattle.oi_base.specs.declared.ids.RegId.{RegId}
 use Rattle.oi_base.specs.Follows.{Going}
-use Rattle.ir_core.specs.declared.flat.FlatOp.{FlatOp}
 use Rattle.ir_core.specs.declared.flat.Entry.{Entry}
 use Rattle.ir_core.specs.declared.flat.Phi.{Phi}
 use Rattle.ir_core.specs.declared.flat.FlatInstr.{FlatInstr}
 use Rattle.ir_core.specs.declared.flat.FlatBlock.{FlatBlock}
 use Rattle.ir_core.specs.declared.func.Block.{Block}
 use Rattle.ir_core.specs.declared.func.Func.{Func}
-use Rattle.ir_core.specs.declared.func.Param.{Param}
 use Rattle.ir_core.specs.declared.op.LocalId.{LocalId}
 use Rattle.ir_core.specs.declared.module.Module.{Module}
 use Rattle.ir_core.specs.Memory.{Value, Memory}
-use Rattle.ir_core.specs.Flat.{Program, Activation, Run, Regs, with_reg, value_of, seen, block_of, entry_for, entry_value, with_phi, after_phis, at_most_one}
+use Rattle.ir_core.specs.Flat.{Activation, Run, Regs, with_reg, seen, block_of, entry_for, entry_value, with_phi, after_phis}
 use Rattle.ir_core.specs.Formed.{written_by}
 use Rattle.ir_core.specs.Instructions.{block_rows}
-use Rattle.ir_core.specs.Source.{is_labelled, block_at, entry_label, bound}
-use Rattle.ir_core.specs.Plain.{Numbers, other_reg, other_operand, other_entry, other_phi, renumbered, numbers, registers, is_local, plain_body, plain_program}
-use Rattle.ir_core.proofs.Lists.{Has, Each, Apart, each_map, place_own}
+use Rattle.ir_core.specs.Source.{is_labelled, block_at, entry_label}
+use Rattle.ir_core.specs.Plain.{other_reg, other_operand, other_entry, other_phi, renumbered, numbers, registers, plain_body, plain_program}
+use Rattle.ir_core.proofs.Lists.{Each, Apart, place_own}
 use Rattle.ir_core.proofs.Renamed.{value_other}
 use Rattle.ir_core.proofs.Sound.{IsAt, coming, IsRegister, Sound}
 
@@ -184,4 +182,4 @@ module _ (g : Func) (x : ℕ) (within : (numbers g).block x < length g.blocks) (
   phis_same [] h = same
   phis_same (f ∷ fs) h =
       subst (λ v. SameMaps g (after_phis old x (f ∷ fs)) (with_phi ((numbers g).reg f.reg.0) v (after_phis new ((numbers g).block x) (map (other_phi (numbers g)) fs)))) (sym (entry_same f.entries))
-          (phi_same f.reg.0 h.0 (entry_value old (entry_for x f.entries)) (after_phis old x fs) (after_phis new ((numbers g).block x) (map (other_phi (numbers g)) fs)) (phis_same fs h.1))
+      (phi_same f.reg.0 h.0 (entry_value old (entry_for x f.entries)) (after_phis old x fs) (after_phis new ((numbers g).block x) (map (other_phi (numbers g)) fs)) (phis_same fs h.1))

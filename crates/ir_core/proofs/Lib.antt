@@ -18,3 +18,4 @@ pub mod Sound
 pub mod Alike
 pub mod SourceRuns
 pub mod SoundRules
+pub mod SourceExamples

@@ -1,11 +1,10 @@
 -- The rules on names, allocas and the entry block say what a run needs.
-use Rattle.std.proofs.Common.{◌≡◌, ◌≢◌, ◌⊎◌, inl, inr, ℕ, zero, suc, ◌+◌, ◌<◌, ◌==◌, Bool, true, false, if◌then◌else◌, bytes_eq, codes, List, [], ◌∷◌, ◌++◌, map, length, Option, Some, None, slice_get, slice_index_or, All, Contains, refl, sym, ap, ◌∙◌, subst, arith}
-use Rattle.std.specs.List.{flat_map, filter_map, cons_option, find, position_or_len}
+use Rattle.std.proofs.Common.{◌≡◌, ◌≢◌, inl, inr, ℕ, zero, suc, ◌<◌, Bool, true, false, if◌then◌else◌, bytes_eq, codes, List, [], ◌∷◌, ◌++◌, map, length, Option, Some, None, slice_get, All, Contains, refl, sym, ap, ◌∙◌, subst, arith}
+use Rattle.std.specs.List.{flat_map, filter_map, cons_option, find}
 use Rattle.std.specs.Option.{option_map, option_map_or, option_and_then}
 use Rattle.std.proofs.lemmas.List.{map-append}
 use Rattle.std.proofs.lemmas.List.Folds.{find_at}
 use Rattle.std.proofs.lemmas.Option.{slice_get_within, get_or_from_slice_get}
-use Rattle.oi_base.specs.declared.ids.Place.{Place}
 use Rattle.oi_base.specs.declared.ids.RegId.{RegId}
 use Rattle.ir_core.specs.declared.flat.FlatOp.{FlatOp}
 use Rattle.ir_core.specs.declared.flat.FlatInstr.{FlatInstr}
@@ -30,11 +29,11 @@ use Rattle.ir_core.specs.Stands.{symbol_text}
 use Rattle.ir_core.specs.Formed as formed
 use Rattle.ir_core.specs.Formed.{written_by, of_result}
 use Rattle.ir_core.specs.Instructions.{register, first, func_number, instruction, phi, call, external_call, switch_case, terminator, block_rows}
-use Rattle.ir_core.specs.Source.{is_labelled, block_at, entry_label}
+use Rattle.ir_core.specs.Source.{is_labelled, entry_label}
 use Rattle.ir_core.specs.Plain.{numbers, registers, results, RunsAsTheSource}
 use Rattle.ir_core.specs.Valid.{IsValid, IsValidFunc}
-use Rattle.ir_core.specs.ValidFunc.{LocalAt, instr_local, block_locals_at, locals_at, BreaksNames, BreaksPositions, BreaksEntry, IsAlloca}
-use Rattle.ir_core.proofs.Lists.{Has, Each, Apart, each_of, each_map, each_left, each_right, each_part, apart_left, apart_right, apart_part, apart_across, has_right, has_part, has_at, at_has, contains, has_source, place_within, place_has}
+use Rattle.ir_core.specs.ValidFunc.{LocalAt, instr_local, block_locals_at, locals_at, IsAlloca}
+use Rattle.ir_core.proofs.Lists.{Has, Each, Apart, each_of, each_map, each_left, each_right, each_part, apart_right, apart_part, apart_across, has_right, has_part, has_at, at_has, contains, has_source, place_within, place_has}
 use Rattle.ir_core.proofs.Sound.{IsAt, coming, IsRegister, Sound}
 use Rattle.ir_core.proofs.SourceRuns.{runs_as_the_source}
 
@@ -166,9 +165,10 @@ same_name a b e = ap (λ (n : ℕ). record { 0 = n }) e
 
 all_apart : (xs : List LocalAt) → ((i j : ℕ) (a b : LocalAt) → i < j → slice_get xs i ≡ Some a → slice_get xs j ≡ Some b → a.name ≡ b.name → ⊥) → Apart (map key xs)
 all_apart [] h = tt
-all_apart (x ∷ xs) h =
-    (each_at (λ y. key x ≢ y) xs (λ j b e same. h 0 (suc j) x b (omega arith) refl e (same_name x.name b.name same)),
-     all_apart xs (λ i j a b lt ei ej same. h (suc i) (suc j) a b (omega (arith, lt)) ei ej same))
+all_apart (x ∷ xs) h = (
+  each_at (λ y. key x ≢ y) xs (λ j b e same. h 0 (suc j) x b (omega arith) refl e (same_name x.name b.name same)),
+  all_apart xs (λ i j a b lt ei ej same. h (suc i) (suc j) a b (omega (arith, lt)) ei ej same),
+)
 
 parts_mapped : {A : Type 0} (f : A → List LocalAt) (xs : List A) → map key (flat_map f xs) ≡ flat_map (λ x. map key (f x)) xs
 parts_mapped f [] = refl
@@ -220,8 +220,8 @@ module _ (m : Module) where
       let all : Apart (own j.result ++ names js) = subst Apart (names_first j js) a in
       let across : Each (λ x. Each (λ y. x ≢ y) (names js)) (own j.result) = apart_across (own j.result) (names js) all in
       head_apart j.result (instruction m j.result j.op) (code_rows js) (agrees m j.result j.op)
-          (each_map (λ x. Each (λ y. x ≢ y) (names js)) (λ x. Each (λ y. x ≢ y) (filter_map written_by (code_rows js))) (own j.result) (λ x h. each_rows (λ y. x ≢ y) js h) across)
-          (apart_rows js (apart_right (own j.result) (names js) all))
+      (each_map (λ x. Each (λ y. x ≢ y) (names js)) (λ x. Each (λ y. x ≢ y) (filter_map written_by (code_rows js))) (own j.result) (λ x h. each_rows (λ y. x ≢ y) js h) across)
+      (apart_rows js (apart_right (own j.result) (names js) all))
 
 each_from : {A : Type 0} (P : A → Type 0) (xs : List A) → ((x : A) → Has xs x → P x) → Each P xs
 each_from P [] h = tt
@@ -319,8 +319,8 @@ module _ (m : Module) (valid : IsValid m) where
     phis_known : Each (λ (q : Phi). IsRegister g q.reg.0) k.phis
     phis_known = subst (λ (l : FlatBlock). Each (λ (q : Phi). IsRegister g q.reg.0) l.phis) here.rows
         (each_from (λ (q : Phi). IsRegister g q.reg.0) (block_rows m b).phis (λ q h.
-            let j = has_source (λ (j : Instr). phi m j.result j.op) b.code q h in
-            register_of g b j.0 q.reg.0 here_has j.1 (subst (PhiAgrees j.0.result) j.2 (phi_agrees m j.0.result j.0.op))))
+        let j = has_source (λ (j : Instr). phi m j.result j.op) b.code q h in
+        register_of g b j.0 q.reg.0 here_has j.1 (subst (PhiAgrees j.0.result) j.2 (phi_agrees m j.0.result j.0.op))))
 
     abbrev params_at : List LocalAt
     params_at = map (λ (q : Param). record { name = q.name; place = g.place }) g.params

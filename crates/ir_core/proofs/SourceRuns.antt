@@ -1,13 +1,12 @@
 -- A module's run and that of its plain bodies stand alike after each turn.
-use Rattle.std.proofs.Common.{◌≡◌, ◌≢◌, ℕ, zero, suc, ◌+◌, ◌<◌, ◌==◌, nat_eq, Bool, true, false, not, cond, if◌then◌else◌, List, [], ◌∷◌, ◌++◌, map, length, take, Option, Some, None, slice_get, refl, sym, ap, ◌∙◌, subst, arith}
+use Rattle.std.proofs.Common.{◌≡◌, ◌≢◌, ℕ, zero, suc, ◌+◌, ◌==◌, Bool, true, false, not, cond, if◌then◌else◌, List, [], ◌∷◌, ◌++◌, map, length, take, Option, Some, None, slice_get, refl, sym, ap, ◌∙◌, subst, arith}
 use Rattle.std.specs.List.{position_or_len, find}
 use Rattle.std.specs.Option.{option_map, option_map_or, option_and_then}
 use Rattle.std.specs.Fn.{iterate}
 use Rattle.std.proofs.lemmas.Bool.Decides.{nat_tests}
 use Rattle.std.proofs.lemmas.Option.{slice_get-map}
 use Rattle.oi_base.specs.declared.ids.RegId.{RegId}
-use Rattle.oi_base.specs.Follows.{Status, Going, Ended, Undefined, Stuck, Seen}
-use Rattle.ir_core.specs.declared.flat.Phi.{Phi}
+use Rattle.oi_base.specs.Follows.{Status, Going, Ended, Undefined, Stuck}
 use Rattle.ir_core.specs.declared.flat.FlatInstr.{FlatInstr}
 use Rattle.ir_core.specs.declared.flat.FlatInstr.TheVariants.{Alloca}
 use Rattle.ir_core.specs.declared.flat.FlatBlock.{FlatBlock}
@@ -18,17 +17,17 @@ use Rattle.ir_core.specs.declared.op.LocalId.{LocalId}
 use Rattle.ir_core.specs.declared.module.Module.{Module}
 use Rattle.ir_core.specs.Memory.{Value, Bits, At, Memory, fresh, kill_all}
 use Rattle.ir_core.specs.Rows.{Read, Is, IsPoison, IsOther, as_word}
-use Rattle.ir_core.specs.Flat.{Program, Activation, Run, Regs, Effect, Sets, Allocates, Stores, Puts, Takes, Enters, Goes, Returns, Stops, NoMeaning, NoValue, with_reg, seen, effect, end_effect, applied, what_stands, in_block, block_of, ends, with_result, without, allocated, got, entered, at_most_one, after_phis, goes_into, stands_at, returned, back, last, ended, flat_step, flat_start, flat_run}
-use Rattle.ir_core.specs.Formed.{written_by, of_result, targets}
+use Rattle.ir_core.specs.Flat.{Activation, Run, Regs, Effect, Sets, Allocates, Stores, Puts, Takes, Enters, Goes, Returns, Stops, NoMeaning, NoValue, with_reg, seen, effect, end_effect, applied, what_stands, in_block, block_of, ends, with_result, without, allocated, got, entered, at_most_one, after_phis, goes_into, stands_at, returned, back, last, ended, flat_step, flat_start, flat_run}
+use Rattle.ir_core.specs.Formed.{written_by, of_result}
 use Rattle.ir_core.specs.Instructions.{block_rows}
-use Rattle.ir_core.specs.Source.{is_labelled, block_at, entry_label, bound, activated, called, carried_out, at_block, source_step, source_start, main_number, src}
+use Rattle.ir_core.specs.Source.{is_labelled, block_at, entry_label, bound, called, carried_out, at_block, source_step, source_start, main_number, src}
 use Rattle.ir_core.specs.Constants.{global_memory}
-use Rattle.ir_core.specs.Plain.{Numbers, other_reg, other_instr, other_end, renumbered, numbers, registers, is_local, plain_body, plain_program, RunsAsTheSource}
-use Rattle.ir_core.proofs.Lists.{Has, Each}
+use Rattle.ir_core.specs.Plain.{other_reg, other_instr, renumbered, numbers, is_local, plain_body, plain_program, RunsAsTheSource}
+use Rattle.ir_core.proofs.Lists.{Each}
 use Rattle.ir_core.proofs.Renamed.{other_effect, effect_other, end_other}
 use Rattle.ir_core.proofs.Written.{Fits, EndFits, fits, leads}
-use Rattle.ir_core.proofs.Sound.{IsAt, coming, IsRegister, Sound}
-use Rattle.ir_core.proofs.Alike.{act, run, Unwritten, Alike, Waits, no_result, result, Below, bottom, over, Related, both_go, both_stand, block_found, write_same, both_each, coming_at, unwritten_next, not_again, written_alike, next_alike, SameMaps, phis_same}
+use Rattle.ir_core.proofs.Sound.{IsAt, coming, Sound}
+use Rattle.ir_core.proofs.Alike.{act, run, Alike, Waits, no_result, result, Below, bottom, over, Related, both_go, both_stand, block_found, write_same, both_each, coming_at, not_again, written_alike, next_alike, SameMaps, phis_same}
 
 -- ---- statuses
 
@@ -102,12 +101,12 @@ back_alike m g f x p old new made v v' as' bs memory input output alike below no
 back_alike m g f x p old new made v v' as' bs memory input output alike below (result d known unwritten) None = both_end m _ _ as' bs memory memory input output Stuck stuck_not_going (same_depth m below)
 back_alike m g f x p old new made v v' as' bs memory input output alike below (result d known unwritten) (Some u) =
     both_go g f x p (with_reg old d.0 u) (with_reg new ((numbers g).reg d.0) u) made v v' as' bs memory input output
-        (record {
-          func = alike.func;
-          same = write_same g old new d.0 u known alike.same;
-          fresh = λ entry k at. both_each old d.0 u (coming k p) (unwritten entry k at) (alike.fresh entry k at);
-        })
-        below
+    (record {
+      func = alike.func;
+      same = write_same g old new d.0 u known alike.same;
+      fresh = λ entry k at. both_each old d.0 u (coming k p) (unwritten entry k at) (alike.fresh entry k at);
+    })
+    below
 
 last_alike : (m : Module) (a b : Activation) (memory : Memory) (input output : List ℕ) (v : Option Value) → Related m (last (run a [] memory input output) v) (last (run b [] memory input output) v)
 last_alike m a b memory input output None = both_end m a b [] [] memory memory input output Stuck stuck_not_going refl
@@ -179,15 +178,15 @@ module _ (m : Module) (sound : Sound m) where
         entered_alike d f' args None found h = stuck
         entered_alike d f' args (Some g') found h =
             subst (λ (n : ℕ). Related m (called r f' args d (Some g')) (run (act f' n 0 (λ q. at_most_one (slice_get (take (length g'.params) args) q)) [] (option_map (other_reg (numbers g)) d)) (act f ((numbers g).block x) (p + 1) new made w' ∷ bs) memory input output)) (entry_first g')
-                (both_go g' f' (entry_label g') 0 (bound g'.params args) (λ q. at_most_one (slice_get (take (length g'.params) args) q)) [] d (option_map (other_reg (numbers g)) d) (act f x (p + 1) old made w ∷ as') (act f ((numbers g).block x) (p + 1) new made w' ∷ bs) memory input output
-                    (start_alike g' f' args found)
-                    (over g f x (p + 1) old new made w w' d (option_map (other_reg (numbers g)) d) as' bs (next_alike m g f x p old new k i at here alike) (waits d h) below))
+            (both_go g' f' (entry_label g') 0 (bound g'.params args) (λ q. at_most_one (slice_get (take (length g'.params) args) q)) [] d (option_map (other_reg (numbers g)) d) (act f x (p + 1) old made w ∷ as') (act f ((numbers g).block x) (p + 1) new made w' ∷ bs) memory input output
+            (start_alike g' f' args found)
+            (over g f x (p + 1) old new made w w' d (option_map (other_reg (numbers g)) d) as' bs (next_alike m g f x p old new k i at here alike) (waits d h) below))
 
         instr_alike : (e : Effect) → Fits i e → after e
         instr_alike (Sets d v) h = goes_on (Some d) v made memory input output h
         instr_alike (Allocates d size align) h =
             subst (λ (mem : Memory). Related m (carried_out m r (Allocates d size align)) (allocated s (other_reg (numbers g) d) size align mem)) (sym (none_dies d size align h))
-                (goes_on (Some d) (At (length memory) 0) (length memory ∷ made) (memory ++ fresh size align ∷ []) input output (ap written_by h))
+            (goes_on (Some d) (At (length memory) 0) (length memory ∷ made) (memory ++ fresh size align ∷ []) input output (ap written_by h))
         instr_alike (Stores memory') h = both_go g f x (p + 1) old new made w w' as' bs memory' input output (next_alike m g f x p old new k i at here alike) below
         instr_alike (Puts d b) h = goes_on d (Bits b) made memory input (output ++ b ∷ []) h
         instr_alike (Takes d) h = got_alike d input h
@@ -221,7 +220,7 @@ module _ (m : Module) (sound : Sound m) where
       end_alike (Enters d f' args) h = absurd h
       end_alike (Goes t) h =
           subst (λ (o : Option FlatBlock). Related m (goes_into r t (block_at m f t)) (goes_into s ((numbers g).block t) o)) (sym (block_found m f t g alike.func))
-              (goes_alike t (sound.no_way_back f x g k at t h) (block_at m f t) refl)
+          (goes_alike t (sound.no_way_back f x g k at t h) (block_at m f t) refl)
       end_alike (Returns v) h = returned_alike m f x ((numbers g).block x) p old new made memory input output v below
       end_alike (Stops word) h = ends_so (Ended word) (ended_not_going word)
       end_alike NoMeaning h = ends_so Undefined undefined_not_going
@@ -234,7 +233,7 @@ module _ (m : Module) (sound : Sound m) where
       block_alike : Related m (at_block m r (Some k)) (in_block (plain_program m) s (Some (renumbered (numbers g) k)))
       block_alike =
           subst (λ (o : Option FlatInstr). Related m (at_block m r (Some k)) (applied (plain_program m) s (what_stands s (renumbered (numbers g) k) o))) (sym (slice_get-map (other_instr (numbers g)) k.code p))
-              (by_place (slice_get k.code p) refl)
+          (by_place (slice_get k.code p) refl)
 
     by_block : (o : Option FlatBlock) → block_at m f x ≡ o → Related m (at_block m r o) (in_block (plain_program m) s (option_map (renumbered (numbers g)) o))
     by_block None found = stuck
@@ -243,7 +242,7 @@ module _ (m : Module) (sound : Sound m) where
     turn_alike : Related m (at_block m r (block_at m f x)) (in_block (plain_program m) s (block_of ((plain_program m).body f) ((numbers g).block x)))
     turn_alike =
         subst (λ (o : Option FlatBlock). Related m (at_block m r (block_at m f x)) (in_block (plain_program m) s o)) (sym (block_found m f x g alike.func))
-            (by_block (block_at m f x) refl)
+        (by_block (block_at m f x) refl)
 
   source_stays : (r : Run) (st : Status) → r.status ≡ st → st ≢ Going → source_step m r ≡ r
   unfolding source_step
@@ -264,7 +263,7 @@ module _ (m : Module) (sound : Sound m) where
   step_related (both_go g f x p old new made w w' as' bs memory input output alike below) = turn_alike g f x p old new made w w' as' bs memory input output alike below
   step_related (both_stand r s e hr hs) =
       subst (λ (q : Run). Related m q (flat_step (plain_program m) s)) (sym (source_stays r r.status refl hr))
-          (subst (λ (q : Run). Related m r q) (sym (flat_stays s s.status refl hs)) (both_stand r s e hr hs))
+      (subst (λ (q : Run). Related m r q) (sym (flat_stays s s.status refl hs)) (both_stand r s e hr hs))
 
   related_seen : {r s : Run} → Related m r s → seen s ≡ seen r
   related_seen (both_go g f x p old new made w w' as' bs memory input output alike below) = ap (λ n. record { output = output; status = Going; depth = n + 1 }) (same_depth m below)
@@ -289,15 +288,15 @@ module _ (m : Module) (sound : Sound m) where
   with_main : (input : List ℕ) (g : Func) → slice_get m.funcs (main_number m) ≡ Some g → Related m (begun input (entry_label g)) (flat_start (plain_program m) input)
   with_main input g found =
       subst (λ (b : ℕ). Related m (begun input (entry_label g)) (begun input b)) (entry_first g)
-          (both_go g (main_number m) (entry_label g) 0 nothing nothing [] None None [] [] (global_memory m) input []
-              (record { func = found; same = λ q. refl; fresh = λ entry k at. none_yet (coming k 0) }) (bottom None None))
+      (both_go g (main_number m) (entry_label g) 0 nothing nothing [] None None [] [] (global_memory m) input []
+      (record { func = found; same = λ q. refl; fresh = λ entry k at. none_yet (coming k 0) }) (bottom None None))
 
   without_main : (input : List ℕ) → slice_get m.funcs (main_number m) ≡ None → Related m (source_step m (source_start m input)) (flat_step (plain_program m) (flat_start (plain_program m) input))
   unfolding source_step flat_step
   without_main input found =
       let x : ℕ = (source_start m input).top.block in
       subst (λ (o : Option Func). Related m (at_block m (source_start m input) (option_and_then (λ (g : Func). option_map (block_rows m) (find (is_labelled x) g.blocks)) o)) (in_block (plain_program m) (flat_start (plain_program m) input) (block_of (option_map (plain_body m) o) 0)))
-          (sym found) (both_stand _ _ refl stuck_not_going stuck_not_going)
+      (sym found) (both_stand _ _ refl stuck_not_going stuck_not_going)
 
   pub runs_as_the_source : RunsAsTheSource m
   runs_as_the_source input n = by_main (slice_get m.funcs (main_number m)) refl n

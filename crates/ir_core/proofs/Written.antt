@@ -1,9 +1,8 @@
 -- Which register an instruction writes, and to which blocks a terminator goes.
-use Rattle.std.proofs.Common.{◌≡◌, ◌⊎◌, inl, inr, ℕ, Bool, true, false, if◌then◌else◌, nat_eq, List, [], ◌∷◌, ◌++◌, map, Option, Some, None, refl}
+use Rattle.std.proofs.Common.{◌≡◌, inl, inr, ℕ, Bool, true, false, if◌then◌else◌, nat_eq, List, [], ◌∷◌, ◌++◌, map, Option, Some, None, refl}
 use Rattle.oi_base.specs.declared.ids.RegId.{RegId}
 use Rattle.oi_base.specs.declared.ids.BlockId.{BlockId}
 use Rattle.oi_base.specs.Words.{modulus}
-use Rattle.ir_core.specs.declared.flat.FlatOp.{FlatOp}
 use Rattle.ir_core.specs.declared.flat.Case.{Case}
 use Rattle.ir_core.specs.declared.flat.FlatInstr.{FlatInstr}
 use Rattle.ir_core.specs.declared.flat.FlatInstr.TheVariants.{Bin, Icmp, Select, Cast, Copy, Alloca, Load, Store, Gep, Call, Put, Get, Exit}

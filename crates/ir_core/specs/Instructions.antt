@@ -1,11 +1,10 @@
 -- A module's instructions in the terms of the rows that give their meaning: registers and blocks have the numbers of
 -- their local names, types are widths, sizes and strides, constants are words and addresses.
-use Rattle.std.specs.Prelude.{ℕ, ◌+◌, ◌*◌, ◌%◌, ◌==◌, Bool, true, false, if◌then◌else◌, List, [], ◌∷◌, ◌++◌, length, map, codes, bytes_eq, unsigned_abs, Option, Some, None, unwrap_or, slice_get}
+use Rattle.std.specs.Prelude.{ℕ, ◌*◌, ◌%◌, ◌==◌, Bool, if◌then◌else◌, List, [], ◌∷◌, map, codes, bytes_eq, unsigned_abs, Option, Some, None}
 use Rattle.std.specs.List.{filter_map, position_or_len}
 use Rattle.std.specs.Option.{option_map}
 use Rattle.oi_base.specs.declared.ids.RegId.{RegId}
 use Rattle.oi_base.specs.declared.ids.BlockId.{BlockId}
-use Rattle.oi_base.specs.declared.ids.FuncId.{FuncId}
 use Rattle.ir_core.specs.declared.flat.FlatOp.{FlatOp}
 use Rattle.ir_core.specs.declared.flat.FlatOp.TheVariants.{Reg, Poison}
 use Rattle.ir_core.specs.declared.flat.FlatInstr.{FlatInstr}
@@ -16,7 +15,6 @@ use Rattle.ir_core.specs.declared.flat.Case.{Case}
 use Rattle.ir_core.specs.declared.flat.Entry.{Entry}
 use Rattle.ir_core.specs.declared.flat.Phi.{Phi}
 use Rattle.ir_core.specs.declared.flat.FlatBlock.{FlatBlock}
-use Rattle.ir_core.specs.declared.ty.TypeDef.{TypeDef}
 use Rattle.ir_core.specs.declared.ty.IrType.{IrType}
 use Rattle.ir_core.specs.declared.constant.TypedCount.{TypedCount}
 use Rattle.ir_core.specs.declared.module.SymId.{SymId}

@@ -13,6 +13,7 @@ pub mod Proper
 pub mod Rows
 pub mod Sizes
 pub mod Source
+pub mod SourceExamples
 pub mod Stands
 pub mod Valid
 pub mod ValidConsts

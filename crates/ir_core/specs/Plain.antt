@@ -1,6 +1,6 @@
 -- The plain flat bodies of a module: each function's own blocks, with every call kept. Registers are numbered from the
 -- parameters on in the order in which the text defines them, blocks in text order.
-use Rattle.std.specs.Prelude.{◌≡◌, ℕ, ◌==◌, Bool, List, ◌++◌, length, map, Option, Some, None, slice_get}
+use Rattle.std.specs.Prelude.{◌≡◌, ℕ, ◌==◌, Bool, List, ◌++◌, length, map, slice_get}
 use Rattle.std.specs.List.{flat_map, filter_map, position_or_len}
 use Rattle.std.specs.Option.{option_map}
 use Rattle.oi_base.specs.declared.ids.RegId.{RegId}

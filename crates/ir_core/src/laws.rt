@@ -9,6 +9,7 @@ ghost use Rattle.ir_core.specs.Acyclic.{HasNoVoid, HoldsItself, IsAcyclic};
 ghost use Rattle.ir_core.specs.declared.module.Module as modules;
 ghost use Rattle.ir_core.specs.Valid.{IsValid};
 ghost use Rattle.ir_core.specs.Plain.{RunsAsTheSource};
+ghost use Rattle.ir_core.specs.SourceExamples.{WorkedSourceRuns};
 
 use crate::defs::TypeDefs;
 use crate::ty::IrType;
@@ -39,4 +40,11 @@ pub fn flat_output_only_grows()
 /// both have the same output, status and depth. It does nothing: its contract is the law.
 pub fn plain_bodies_run_as_the_source()
     ensures { (m : modules.Module) → IsValid m → RunsAsTheSource m }
+{}
+
+/// Runs of small modules: each kind of poison, divisions, pointers in memory, comparisons of pointers, calls, the
+/// externals, and a loop with phis. It does nothing: its contract is the law.
+#[tactic(auto, using(crate::proofs::SourceExamples::worked_source_runs))]
+pub fn worked_runs()
+    ensures { WorkedSourceRuns }
 {}

@@ -26,7 +26,7 @@ pub use flat::{
 pub use func::{Block, Blocks, Func, Funcs, Instr, Instrs, Param, Params};
 pub use laws::{
     acyclic_types_have_layouts, flat_output_only_grows, plain_bodies_run_as_the_source,
-    types_with_layouts_are_acyclic,
+    types_with_layouts_are_acyclic, worked_runs,
 };
 pub use layout::LARGEST;
 pub use module::{Declaration, Declared, GlobalVar, Globals, Module, NamedTypes, SymId, Texts};

@@ -2,7 +2,7 @@
 use Rattle.std.proofs.Common.{ℕ, zero, suc, ◌+◌, ◌-◌, ◌<◌, ◌⊎◌, refl, subst, inl, inr, ⊎_elim, arith}
 use Rattle.std.specs.Fn.{iterate}
 use Rattle.std.proofs.lemmas.Bool.{cases_lt}
-use Rattle.oi_base.specs.Turns.{Turn, goes, breaks, stops}
+use Rattle.oi_base.specs.Turns.{Turn, goes, breaks, stops, Simulates, Simulated}
 use Rattle.oi_base.proofs.Iterate.{iterate_more, iterate_rest}
 
 module _ (A B : Type 0) (go_a : A → A) (go_b : B → B) (Stands Meets Broken Stopped : A → B → Type 0) (left : A → ℕ) where
@@ -73,3 +73,10 @@ module _ (A B : Type 0) (go_a : A → A) (go_b : B → B) (Stands Meets Broken S
       pub to_target : (m : ℕ) (a : A) (b : B) → Stands a b → (IsUndefined (iterate go_a m a) → ⊥) → Reached m a b
       to_target zero a b s defined = inl (0, meets a b s)
       to_target (suc m) a b s defined = target_turn m a b defined (λ b' s'. to_target m (go_a a) b' s' defined) (turn a b s)
+
+pub simulated : {A B : Type 0} (go_a : A → A) (go_b : B → B) (Stands Meets Broken Stopped : A → B → Type 0) (left : A → ℕ) (IsUndefined : A → Type 0)
+    → Simulates go_a go_b Stands Meets Broken Stopped left IsUndefined → (a : A) (b : B) → Stands a b → Simulated go_a go_b Meets Broken Stopped IsUndefined a b
+simulated {A} {B} go_a go_b Stands Meets Broken Stopped left IsUndefined h a b s = record {
+  to_source = to_source A B go_a go_b Stands Meets Broken Stopped left h.meets h.turn a b s;
+  to_target = λ m defined. to_target A B go_a go_b Stands Meets Broken Stopped left h.meets h.turn IsUndefined h.stays h.broken m a b s defined;
+}

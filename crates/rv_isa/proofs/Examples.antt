@@ -20,6 +20,7 @@ worked_runs = record {
   a_store_to_the_text = record { stop_is = refl; output_is = refl };
   a_load_from_the_text = record { stop_is = refl; output_is = refl };
   a_store_and_a_load = record { stop_is = refl; output_is = refl };
+  a_misaligned_load = record { stop_is = refl; output_is = refl };
   the_stack_ends = record { stop_is = refl; output_is = refl };
   no_instruction = record { stop_is = refl; output_is = refl };
   a_bad_call = record { stop_is = refl; output_is = refl };

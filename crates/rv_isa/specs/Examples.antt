@@ -100,6 +100,7 @@ pub record WorkedRuns : Type 0 where
   pub a_store_to_the_text : Ends (Auipc 5 (pos 0) ∷ Sw 5 0 (pos 0) ∷ []) [] 2 (Access 0x10000) []
   pub a_load_from_the_text : Ends (Auipc 5 (pos 0) ∷ Lw 10 5 (pos 8) ∷ Addi 17 0 (pos 3) ∷ Ecall ∷ []) [] 4 (Exit 0x00300893) []
   pub a_store_and_a_load : Ends (Addi 5 0 (negsuc 2) ∷ Sh 2 5 (negsuc 3) ∷ Lb 10 2 (negsuc 2) ∷ Addi 17 0 (pos 3) ∷ Ecall ∷ []) [] 5 (Exit 0xFFFFFFFF) []
+  pub a_misaligned_load : Ends (Lw 5 2 (negsuc 5) ∷ []) [] 1 (Access 0x7FFFEFFA) []
   pub the_stack_ends : Ends (Lw 5 2 (pos 0) ∷ []) [] 1 (Access 0x7FFFF000) []
   pub no_instruction : Ends (Ebreak ∷ []) [] 1 (Illegal 0x00100073) []
   pub a_bad_call : Ends (Addi 17 0 (pos 9) ∷ Ecall ∷ []) [] 2 (BadCall 9) []
