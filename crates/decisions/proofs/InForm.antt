@@ -13,7 +13,8 @@ use Rattle.decisions.specs.declared.maps.Label.{Label}
 use Rattle.decisions.specs.declared.maps.Label.TheVariants.{Keep, Inline}
 use Rattle.decisions.specs.declared.faults.DecisionFault.{DecisionFault}
 use Rattle.decisions.specs.declared.faults.DecisionFault.TheVariants.{Missing}
-use Rattle.decisions.specs.Maps.{label_of, sites_of, IsAscending}
+use Rattle.decisions.specs.Maps.{label_of, sites_of}
+use Rattle.oi_base.specs.Ascending.{IsAscending}
 use Rattle.decisions.specs.Text.{line_of, text_of}
 use Rattle.decisions.specs.Reading.{lines_of, entry_of, is_among, line_fault, first_of, fault_from, first_fault, HaveWords, HasNoRepeats, IsTextOf}
 use Rattle.decisions.proofs.Entries.{after_space, line_is, entry_of_line}

@@ -9,7 +9,8 @@ use Rattle.oi_base.specs.declared.ids.SiteId.{SiteId}
 use Rattle.decisions.specs.declared.maps.Label.{Label}
 use Rattle.decisions.specs.declared.faults.DecisionFault.{DecisionFault}
 use Rattle.decisions.specs.declared.faults.DecisionFault.TheVariants.{BadLine, NotCandidate, Twice, Missing, NoMemory}
-use Rattle.decisions.specs.Maps.{label_of, sites_of, decided, IsAscending, SetsOnly}
+use Rattle.decisions.specs.Maps.{label_of, sites_of, decided, SetsOnly}
+use Rattle.oi_base.specs.Ascending.{IsAscending}
 use Rattle.decisions.specs.Text.{line_of, text_of}
 use Rattle.decisions.specs.Ends.{end_of}
 use Rattle.decisions.specs.Reading.{lines_of, entry_of, is_among, line_fault, missing, first_of, fault_from, first_fault, HasNoRepeats, IsTextOf}

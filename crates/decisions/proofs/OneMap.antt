@@ -4,7 +4,8 @@ use Rattle.std.specs.Prelude.{Option, ◌==◌}
 use Rattle.std.proofs.lemmas.Bool.Decides.{nat_tests}
 use Rattle.oi_base.specs.declared.ids.SiteId.{SiteId}
 use Rattle.decisions.specs.declared.maps.Label.{Label}
-use Rattle.decisions.specs.Maps.{label_of, sites_of, IsAscending}
+use Rattle.decisions.specs.Maps.{label_of, sites_of}
+use Rattle.oi_base.specs.Ascending.{IsAscending}
 use Rattle.decisions.specs.Text.{line_of}
 use Rattle.decisions.specs.Reading.{lines_of, entry_of, is_among, HaveWords, IsTextOf}
 use Rattle.decisions.proofs.Entries.{entry_of_line}

@@ -7,7 +7,8 @@ use Rattle.std.specs.Ordering.{nat_cmp, ordering_index}
 use Rattle.std.proofs.lemmas.Cmp.{ranked}
 use Rattle.std.proofs.lemmas.Bool.Decides.{nat_tests}
 use Rattle.oi_base.specs.declared.ids.SiteId.{SiteId}
-use Rattle.decisions.specs.Maps.{IsAscending, IsAt, IsAbsent}
+use Rattle.decisions.specs.Maps.{IsAt, IsAbsent}
+use Rattle.oi_base.specs.Ascending.{IsAscending}
 
 abbrev number : SiteId → ℕ
 number s = s.0

@@ -5,7 +5,8 @@ use Rattle.std.specs.Prelude.{Option, ◌==◌, ◌||◌, find, is_none}
 use Rattle.std.proofs.lemmas.Bool.Decides.{nat_tests}
 use Rattle.oi_base.specs.declared.ids.SiteId.{SiteId}
 use Rattle.decisions.specs.declared.maps.Label.{Label}
-use Rattle.decisions.specs.Maps.{label_of, sites_of, IsAscending}
+use Rattle.decisions.specs.Maps.{label_of, sites_of}
+use Rattle.oi_base.specs.Ascending.{IsAscending}
 use Rattle.decisions.specs.Reading.{is_among, first_of, HasNoRepeats}
 use Rattle.decisions.specs.Steps.{first_undecided, undecided_or}
 use Rattle.decisions.proofs.Lookups.{same_site}

@@ -1,6 +1,7 @@
 -- Maps from call sites to labels, as lists of pairs of a site and its label.
 use Rattle.std.specs.Prelude.{◌≡◌, ◌≢◌, ℕ, ◌<◌, List, [], ◌∷◌, length, map, slice_index_or, if◌then◌else◌, ◌==◌, Option, Some, None}
 use Rattle.oi_base.specs.declared.ids.SiteId.{SiteId}
+use Rattle.oi_base.specs.Ascending.{IsAscending}
 
 -- the label of a site: that of the first pair with the site
 abbrev pub label_of : {L : Type 0} → List (SiteId × L) → SiteId → Option L
@@ -20,10 +21,6 @@ undecided sites = map (λ s. (s, None)) sites
 -- the partial map in which each site has the label that a whole map gives it
 abbrev pub decided : {L : Type 0} → List (SiteId × L) → List (SiteId × Option L)
 decided m = map (λ e. (e.0, Some e.1)) m
-
--- the sites rise, so none comes twice
-abbrev pub IsAscending : List SiteId → Type 0
-IsAscending sites = (i j : ℕ) (d : SiteId) → i < j → j < length sites → let a = slice_index_or sites i d in let b = slice_index_or sites j d in a.0 < b.0
 
 -- the site stands at this place, and at none before it
 pub record IsAt (sites : List SiteId) (s : SiteId) (at : ℕ) : Type 0 where

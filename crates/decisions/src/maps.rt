@@ -1,5 +1,6 @@
 ghost use Rattle.std.specs.Prelude.{◌≡◌, ◌↔◌, None, IsTrue, IsSome, IfNone, is_none, position, IfOk, All, Some, length, map, replicate};
-ghost use Rattle.decisions.specs.Maps.{label_of, sites_of, labels_of, undecided, decided, IsAscending, SetsOnly};
+ghost use Rattle.decisions.specs.Maps.{label_of, sites_of, labels_of, undecided, decided, SetsOnly};
+ghost use Rattle.oi_base.specs.Ascending.{IsAscending};
 ghost use Rattle.decisions.specs.Steps.{first_undecided};
 ghost use Rattle.decisions.specs.Text.{word_of};
 

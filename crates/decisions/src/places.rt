@@ -1,5 +1,6 @@
 ghost use Rattle.std.specs.Prelude.{IfSome, OnSome, IfNone};
-ghost use Rattle.decisions.specs.Maps.{IsAscending, IsAt, IsAbsent};
+ghost use Rattle.decisions.specs.Maps.{IsAt, IsAbsent};
+ghost use Rattle.oi_base.specs.Ascending.{IsAscending};
 
 use oi_base::SiteId;
 
