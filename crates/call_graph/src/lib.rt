@@ -1,0 +1,16 @@
+//! The call graph of a module: its sites, which functions are reached, and which sites are candidates for inlining.
+#![tactic(auto)]
+
+mod calls;
+mod facts;
+mod functions;
+mod laws;
+mod said;
+mod sites;
+mod starts;
+#[cfg(test)]
+mod tests;
+mod walk;
+
+pub use calls::{CallGraph, graph};
+pub use laws::candidates_form_no_cycle;
