@@ -6,6 +6,10 @@ pub mod Ended
 pub mod Lengths
 pub mod Limits
 pub mod Lines
+pub mod NeverStuck
 pub mod Numbered
+pub mod Placed
+pub mod Ranges
 pub mod ReadingLaws
+pub mod Refined
 pub mod Writes

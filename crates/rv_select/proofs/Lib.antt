@@ -13,5 +13,6 @@ pub mod Shape
 pub mod Slots
 pub mod Start
 pub mod Stores
+pub mod Texts
 pub mod Turning
 pub mod Whole

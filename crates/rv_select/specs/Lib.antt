@@ -2,3 +2,4 @@ pub mod Parts
 pub mod Stands
 pub mod Sums
 pub mod Table
+pub mod Texts
