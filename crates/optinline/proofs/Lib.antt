@@ -2,6 +2,8 @@ pub mod Answering
 pub mod Appending
 pub mod Budget
 pub mod Causes
+pub mod Defined
+pub mod Delivered
 pub mod Ended
 pub mod Lengths
 pub mod Limits

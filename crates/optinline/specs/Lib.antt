@@ -1,4 +1,5 @@
 pub mod Answer
+pub mod Delivered
 pub mod Executable
 pub mod Layout
 pub mod Lowering
