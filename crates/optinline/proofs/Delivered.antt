@@ -22,17 +22,17 @@ use Rattle.rv_select.proofs.Texts.{bytes_length}
 use Rattle.rv_select.specs.Parts.{stub}
 use Rattle.rv_select.specs.Texts.{bytes_of}
 use Rattle.optinline.specs.declared.body.Body.{Body}
-use Rattle.optinline.specs.Lowering.{size, main_code}
+use Rattle.optinline.specs.Lowering.{frame_size, size, main_code}
 use Rattle.optinline.specs.Executable.{image, main_function, object}
 use Rattle.optinline.specs.Reading.{Reads}
 use Rattle.optinline.specs.Reply.{after_writes}
 use Rattle.optinline.specs.Words.{Words, files_differ, checked, budget_of, command_of}
 use Rattle.optinline.specs.Answer.{Answer, refusal, built, certificate, module_limit, IsModuleAnswer, left_out, accepted, IsFileAnswer, IsCommandAnswer, IsAnswer, Runs}
-use Rattle.optinline.specs.Meaning.{IsDefined}
+use Rattle.optinline.specs.Meaning.{IsDefined, module_of}
 use Rattle.optinline.specs.Delivered.{DoesAs, Delivers}
 use Rattle.optinline.proofs.Defined.{reads_defined}
 use Rattle.optinline.proofs.Lengths.{len-main_code}
-use Rattle.optinline.proofs.Refined.{image_refines}
+use Rattle.optinline.proofs.Refined.{image_refines_module}
 
 -- ---- files
 
@@ -139,8 +139,8 @@ module _ (b : Body) (few : length b.ops ≤ 400) where
 
   -- ---- the files
 
-  does_as : IsDefined b → DoesAs b (object b) i
-  does_as defined = record { file = refl; bounds = bounds; words = symbol_words; refines = image_refines b defined }
+  does_as : (names : List (List ℕ)) → IsDefined b → DoesAs (module_of names b) (frame_size (length b.ops)) (object b) i
+  does_as names defined = record { file = refl; bounds = bounds; words = symbol_words; refines = image_refines_module names b defined }
 
 -- the files after a build of this `main`
 written : (words : List (List ℕ)) (w : Words) (before : Files) (bytes : List ℕ) (b : Body) (fs' : Option Files) → command_of words ≡ Some w → finite.get before w.«module» ≡ Some bytes → Reads bytes b → (a : Answer) → a ≡ built w b → fs' ≡ after_writes a.writes (Some before) → (after : Files) × (fs' ≡ Some after) × Delivers words before after
@@ -162,7 +162,7 @@ written words w before bytes b fs' command file read a is left =
       file = file;
       read = read;
       object_file = get_file after2 w.object w.cert (certificate b) false d.object_cert ∙ get_file after1 w.object w.decisions [] false d.object_decisions ∙ get_file before w.object w.object (object b) true (same_name w.object);
-      does = does_as b defined.few defined;
+      does = does_as b defined.few read.parsed.names defined;
       text = text_size b defined.few;
       over = refl;
       decisions_file = get_file after2 w.decisions w.cert (certificate b) false d.decisions_cert ∙ get_file after1 w.decisions w.decisions [] true (same_name w.decisions);

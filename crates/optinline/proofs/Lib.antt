@@ -8,10 +8,13 @@ pub mod Ended
 pub mod Lengths
 pub mod Limits
 pub mod Lines
+pub mod ModuleRuns
 pub mod NeverStuck
 pub mod Numbered
+pub mod PlainBody
 pub mod Placed
 pub mod Ranges
 pub mod ReadingLaws
 pub mod Refined
+pub mod SameRuns
 pub mod Writes

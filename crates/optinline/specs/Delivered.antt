@@ -3,7 +3,8 @@ use Rattle.std.specs.Prelude.{◌≡◌, ℕ, ◌≤◌, List, [], length, Some,
 use Rattle.std.specs.FinMap as finite
 use Rattle.oi_base.specs.declared.ids.SiteId.{SiteId}
 use Rattle.oi_world.specs.Desk.{Files}
-use Rattle.ir_core.specs.Flat.{flat_run}
+use Rattle.ir_core.specs.declared.module.Module.{Module}
+use Rattle.ir_core.specs.Source.{src}
 use Rattle.rv_isa.specs.Isa.{run}
 use Rattle.rv_isa.specs.Refines.{Refines}
 use Rattle.elf_object.specs.Image.{Parts, IsImage, HasWords}
@@ -15,7 +16,7 @@ use Rattle.optinline.specs.declared.body.Body.{Body}
 use Rattle.optinline.specs.Reading.{Reads}
 use Rattle.optinline.specs.Words.{Words, command_of}
 use Rattle.optinline.specs.Lowering.{frame_size, size}
-use Rattle.optinline.specs.Meaning.{flat_program}
+use Rattle.optinline.specs.Meaning.{module_of}
 use Rattle.optinline.specs.Layout.{segments_of}
 use Rattle.optinline.specs.Answer.{certificate}
 
@@ -39,13 +40,13 @@ IsLeast main map = (other : List (SiteId × Label)) → IsMapOver main other →
 
 -- ---- objects
 
--- An object does what a `main` says: its bytes are the ELF file of this image, and the run of what is loaded of it refines
--- that of the flat body, in both directions, on every input. The largest frame is that of `main`.
-pub record DoesAs (main : Body) (object : List ℕ) (image : Parts) : Type 0 where
+-- An object does what a module says: its bytes are the ELF file of this image, and the run of what is loaded of it refines
+-- the run of the module, in both directions, on every input. No frame is larger than the largest.
+pub record DoesAs (m : Module) (largest : ℕ) (object : List ℕ) (image : Parts) : Type 0 where
   pub file : object ≡ elf image
   pub bounds : IsImage image
   pub words : All HasWords image.symbols
-  pub refines : (input : List ℕ) → Refines (frame_size (length main.ops)) (flat_run (flat_program main) input) (run (segments_of image) input)
+  pub refines : (input : List ℕ) → Refines largest (src m input) (run (segments_of image) input)
 
 -- The words are a build of a module in the accepted text. OBJECT does what the module says, and its text has the size of
 -- the map that DECISIONS holds; no map gives less; and CERT is the certificate that states it.
@@ -60,7 +61,7 @@ pub record Delivers (words : List (List ℕ)) (before after : Files) : Type 0 wh
   pub file : finite.get before build.«module» ≡ Some bytes
   pub read : Reads bytes main
   pub object_file : finite.get after build.object ≡ Some object
-  pub does : DoesAs main object image
+  pub does : DoesAs (module_of read.parsed.names main) (frame_size (length main.ops)) object image
   pub text : length image.text ≡ size_under main map
   pub over : IsMapOver main map
   pub decisions_file : finite.get after build.decisions ≡ Some (text_of map)
