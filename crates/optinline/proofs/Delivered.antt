@@ -1,12 +1,9 @@
 -- What a build that is done leaves.
 use Rattle.std.proofs.Common.{◌≡◌, ◌≢◌, ℕ, ◌+◌, ◌*◌, ◌<◌, ◌≤◌, Bool, true, false, cond, not, ◌&&◌, if◌then◌else◌, List, [], ◌∷◌, ◌++◌, length, length-append, Option, Some, None, All, refl, sym, ap, ◌∙◌, subst, arith}
-use Rattle.std.specs.Prelude.{nat_lt, IfSome, MatchBool, codes, Ok}
+use Rattle.std.specs.Prelude.{nat_lt, IfSome, MatchBool, codes}
 use Rattle.std.specs.Option.{option_and_then}
 use Rattle.std.specs.Str.{bytes_eq}
 use Rattle.std.specs.FinMap as finite
-use Rattle.std.specs.Ordering.{nat_cmp, is_eq}
-use Rattle.std.specs.Cmp.Lexicographic.{slice_cmp}
-use Rattle.std.proofs.lemmas.Bool.Decides.{nat_tests}
 use Rattle.std.proofs.lemmas.Cmp.{nat_list_cmp_total}
 use Rattle.std.proofs.lemmas.Map.Text.{is_eq-slice_cmp}
 use Rattle.std.proofs.lemmas.Slice.Eq.{bytes_eq-Decides}
@@ -17,7 +14,6 @@ use Rattle.oi_world.specs.Desk.{Files}
 use Rattle.elf_object.specs.declared.symbol.Symbol.{Symbol}
 use Rattle.elf_object.specs.declared.symbol.SymKind.TheVariants.{Func}
 use Rattle.elf_object.specs.Image.{Parts, IsNamed, HasWords, IsImage, IsLocalFirst, string_table, symbol_table_size}
-use Rattle.elf_object.specs.File.{elf}
 use Rattle.rv_select.proofs.Texts.{bytes_length}
 use Rattle.rv_select.specs.Parts.{stub}
 use Rattle.rv_select.specs.Texts.{bytes_of}
@@ -27,7 +23,7 @@ use Rattle.optinline.specs.Executable.{image, main_function, object}
 use Rattle.optinline.specs.Reading.{Reads}
 use Rattle.optinline.specs.Reply.{after_writes}
 use Rattle.optinline.specs.Words.{Words, files_differ, checked, budget_of, command_of}
-use Rattle.optinline.specs.Answer.{Answer, refusal, built, certificate, module_limit, IsModuleAnswer, left_out, accepted, IsFileAnswer, IsCommandAnswer, IsAnswer, Runs}
+use Rattle.optinline.specs.Answer.{Answer, refusal, built, certificate, module_limit, IsModuleAnswer, left_out, accepted, IsFileAnswer, IsCommandAnswer, IsAnswer}
 use Rattle.optinline.specs.Meaning.{IsDefined, module_of}
 use Rattle.optinline.specs.Delivered.{DoesAs, Delivers}
 use Rattle.optinline.proofs.Defined.{reads_defined}
@@ -150,25 +146,28 @@ written words w before bytes b fs' command file read a is left =
     let defined = reads_defined bytes b read in
     let after1 = finite.insert before w.object (object b) in
     let after2 = finite.insert after1 w.decisions [] in
-    let after3 = finite.insert after2 w.cert (certificate b) in
-    (after3, left ∙ ap (λ (x : Answer). after_writes x.writes (Some before)) is, record {
-      build = w;
-      bytes = bytes;
-      main = b;
-      object = object b;
-      image = image 16 (main_function b ∷ []);
-      map = [];
-      command = command;
-      file = file;
-      read = read;
-      object_file = get_file after2 w.object w.cert (certificate b) false d.object_cert ∙ get_file after1 w.object w.decisions [] false d.object_decisions ∙ get_file before w.object w.object (object b) true (same_name w.object);
-      does = does_as b defined.few read.parsed.names defined;
-      text = text_size b defined.few;
-      over = refl;
-      decisions_file = get_file after2 w.decisions w.cert (certificate b) false d.decisions_cert ∙ get_file after1 w.decisions w.decisions [] true (same_name w.decisions);
-      least = λ other h. le_refl (size b);
-      certificate_file = get_file after2 w.cert w.cert (certificate b) true (same_name w.cert);
-    })
+    let after3 = finite.insert after2 w.cert (certificate b) in (
+      after3,
+      left ∙ ap (λ (x : Answer). after_writes x.writes (Some before)) is,
+      record {
+        build = w;
+        bytes = bytes;
+        main = b;
+        object = object b;
+        image = image 16 (main_function b ∷ []);
+        map = [];
+        command = command;
+        file = file;
+        read = read;
+        object_file = get_file after2 w.object w.cert (certificate b) false d.object_cert ∙ get_file after1 w.object w.decisions [] false d.object_decisions ∙ get_file before w.object w.object (object b) true (same_name w.object);
+        does = does_as b defined.few read.parsed.names defined;
+        text = text_size b defined.few;
+        over = refl;
+        decisions_file = get_file after2 w.decisions w.cert (certificate b) false d.decisions_cert ∙ get_file after1 w.decisions w.decisions [] true (same_name w.decisions);
+        least = λ other h. le_refl (size b);
+        certificate_file = get_file after2 w.cert w.cert (certificate b) true (same_name w.cert);
+      },
+    )
 
 module _ (words : List (List ℕ)) (before : Files) (fs' : Option Files) (a : Answer) (zero : a.status ≡ 0) (left : fs' ≡ after_writes a.writes (Some before)) where
   abbrev Done : Type 0

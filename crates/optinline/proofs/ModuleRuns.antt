@@ -1,15 +1,13 @@
 -- The module of a `main` runs as its flat body.
-use Rattle.std.proofs.Common.{◌≡◌, ◌≢◌, ℕ, zero, suc, ◌+◌, ◌<◌, ◌≤◌, Bool, true, false, cond, not, ◌==◌, nat_eq, if◌then◌else◌, List, [], ◌∷◌, ◌++◌, length, map, drop, Option, Some, None, slice_get, refl, sym, ap, ◌∙◌, subst, arith}
-use Rattle.std.specs.List.{filter_map, find, position_or_len}
-use Rattle.std.specs.Option.{option_map, option_and_then}
+use Rattle.std.proofs.Common.{◌≡◌, ◌≢◌, ℕ, zero, suc, ◌+◌, ◌<◌, Bool, true, false, cond, not, ◌==◌, nat_eq, if◌then◌else◌, List, [], ◌∷◌, length, Some, None, slice_get, refl, sym, ap, ◌∙◌, subst, arith}
+use Rattle.std.specs.List.{filter_map, position_or_len}
+use Rattle.std.specs.Option.{option_map}
 use Rattle.std.proofs.lemmas.Bool.Decides.{nat_tests}
 use Rattle.oi_base.specs.declared.ids.RegId.{RegId}
 use Rattle.ir_core.specs.declared.flat.FlatInstr.{FlatInstr}
 use Rattle.ir_core.specs.declared.flat.FlatInstr.TheVariants.{Alloca}
 use Rattle.ir_core.specs.declared.flat.FlatBlock.{FlatBlock}
-use Rattle.ir_core.specs.declared.flat.FlatBody.{FlatBody}
 use Rattle.ir_core.specs.declared.flat.Phi.{Phi}
-use Rattle.ir_core.specs.declared.func.Block.{Block}
 use Rattle.ir_core.specs.declared.func.Func.{Func}
 use Rattle.ir_core.specs.declared.func.Param.{Param}
 use Rattle.ir_core.specs.declared.module.Module.{Module}
@@ -17,7 +15,7 @@ use Rattle.ir_core.specs.Formed.{written_by, targets}
 use Rattle.ir_core.specs.Flat.{flat_run}
 use Rattle.ir_core.specs.Instructions.{block_rows}
 use Rattle.ir_core.specs.Source.{is_labelled, block_at, src}
-use Rattle.ir_core.specs.Plain.{numbers, plain_body, plain_program}
+use Rattle.ir_core.specs.Plain.{numbers, plain_program}
 use Rattle.ir_core.proofs.Lists.{Has, Each, Apart}
 use Rattle.ir_core.proofs.Sound.{IsAt, coming, IsRegister, Sound}
 use Rattle.ir_core.proofs.SourceRuns.{runs_as_the_source}

@@ -10,8 +10,8 @@ use Rattle.ir_core.specs.declared.flat.FlatInstr.{FlatInstr}
 use Rattle.ir_core.specs.declared.flat.FlatEnd.TheVariants.{Ret}
 use Rattle.ir_core.specs.declared.flat.FlatBlock.{FlatBlock}
 use Rattle.ir_core.specs.Memory.{Value, Bits}
-use Rattle.ir_core.specs.Rows.{Read, Is, IsOther, as_word, Gives, bin, bin_read}
-use Rattle.ir_core.specs.Flat.{Program, Run, Activation, value_of, block_of, flat_step, flat_start, applied, using, Returns, with_value, with_reg, returned, ended, ends}
+use Rattle.ir_core.specs.Rows.{Is, IsOther, as_word, Gives, bin, bin_read}
+use Rattle.ir_core.specs.Flat.{Program, Run, value_of, block_of, flat_step, flat_start, applied, using, Returns, with_value, with_reg, returned, ended, ends}
 use Rattle.ir_core.proofs.Outputs.{run_stays}
 use Rattle.rv_select.specs.Sums.{IsPlain, IsSum, IsSums, IsNeverStuck}
 use Rattle.rv_select.proofs.Rows.{end_is, bin_turn}
@@ -22,7 +22,7 @@ use Rattle.optinline.specs.declared.body.Sum.TheVariants.{Add, Sub}
 use Rattle.optinline.specs.declared.body.Op.{Op}
 use Rattle.optinline.specs.declared.body.Body.{Body}
 use Rattle.optinline.specs.Parsing.{IsKnown, OpIsKnown}
-use Rattle.optinline.specs.Meaning.{operand_of, bin_op, instr_of, instrs_of, flat_body, flat_program, AreDefined, IsDefined}
+use Rattle.optinline.specs.Meaning.{operand_of, bin_op, instr_of, instrs_of, flat_program, AreDefined, IsDefined}
 use Rattle.optinline.specs.Layout.{main_frame}
 
 -- ---- the program is one of sums and differences

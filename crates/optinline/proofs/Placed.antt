@@ -1,8 +1,6 @@
 -- The code of `main` lies in the text as the layout says.
-use Rattle.std.proofs.Common.{◌≡◌, ◌≢◌, ℕ, zero, suc, ◌+◌, ◌-◌, ◌*◌, ◌/◌, ◌%◌, ◌<◌, ◌≤◌, refl, sym, ap, ap₂, ◌∙◌, subst, inl, inr, arith, Bool, true, false, nat_eq, if◌then◌else◌, List, [], ◌∷◌, ◌++◌, length, length-append, append_assoc, Option, Some, None, slice_get}
-use Rattle.std.proofs.lemmas.Bool.Decides.{nat_tests}
+use Rattle.std.proofs.Common.{◌≡◌, ℕ, zero, suc, ◌+◌, ◌*◌, ◌%◌, ◌≤◌, refl, sym, ap, ap₂, ◌∙◌, subst, arith, Bool, true, false, nat_eq, if◌then◌else◌, List, [], ◌∷◌, ◌++◌, length, length-append, append_assoc, Some, None, slice_get}
 use Rattle.std.proofs.lemmas.List.{append-nil}
-use Rattle.oi_base.specs.declared.words.Width.TheVariants.{W32}
 use Rattle.ir_core.specs.declared.flat.FlatInstr.{FlatInstr}
 use Rattle.ir_core.specs.declared.flat.FlatEnd.TheVariants.{Ret}
 use Rattle.ir_core.specs.declared.flat.FlatBlock.{FlatBlock}
@@ -12,11 +10,11 @@ use Rattle.rv_isa.specs.declared.rv.Rv.{Rv}
 use Rattle.rv_isa.specs.declared.rv.Rv.TheVariants as rv
 use Rattle.rv_isa.specs.Memory.{Segments, text_start, data_start}
 use Rattle.rv_isa.specs.Laws.{Holds}
-use Rattle.rv_select.specs.Parts.{load_word, load_slot, store_slot, open_frame, epilogue, stub}
+use Rattle.rv_select.specs.Parts.{store_slot, open_frame, epilogue, stub}
 use Rattle.rv_select.specs.Texts.{bytes_of}
 use Rattle.rv_select.specs.Table as table
 use Rattle.rv_select.specs.Table.{Frame, instr_code, end_code, ret_code, prologue}
-use Rattle.rv_select.specs.Stands.{IsFrame, Object, IsAt, IsThere, DataIsLaid, IsLaid}
+use Rattle.rv_select.specs.Stands.{IsFrame, Object, IsAt, IsThere, IsLaid}
 use Rattle.rv_select.proofs.Items.{holds_front, holds_back}
 use Rattle.rv_select.proofs.Texts.{text_holds, bytes_length}
 use Rattle.optinline.specs.declared.body.Value.{Value}
@@ -26,9 +24,9 @@ use Rattle.optinline.specs.declared.body.Sum.TheVariants.{Add, Sub}
 use Rattle.optinline.specs.declared.body.Op.{Op}
 use Rattle.optinline.specs.declared.body.Body.{Body}
 use Rattle.optinline.specs.Lowering.{slot, frame_size, load, machine_op, op_code, ops_code, main_code}
-use Rattle.optinline.specs.Executable.{image, main_function}
-use Rattle.optinline.specs.Meaning.{operand_of, bin_op, instr_of, instrs_of, flat_body, flat_program}
-use Rattle.optinline.specs.Layout.{main_frame, segments_of, op_place, main_address, ops_address, main_object}
+use Rattle.optinline.specs.Executable.{image}
+use Rattle.optinline.specs.Meaning.{operand_of, instr_of, instrs_of, flat_body, flat_program}
+use Rattle.optinline.specs.Layout.{main_frame, op_place, main_address, ops_address, main_object}
 use Rattle.optinline.proofs.Lengths.{len-main_code}
 use Rattle.optinline.proofs.Ranges.{program_ranges}
 
@@ -145,7 +143,7 @@ module _ (b : Body) (few : length b.ops ≤ 400) where
   end_at =
       let h = holds_back s (ops_address b) (ops_code 0 b.ops) (load 10 b.value ++ epilogue (frame_size n)) ops_hold in
       subst (λ a. Holds s a (table.load (λ g. data_start) (main_frame n) 10 (operand_of b.value) ++ epilogue (frame_size n))) (sym (end_place (ops_address b) 0 b.ops))
-        (subst (λ c. Holds s (ops_address b + 4 * length (ops_code 0 b.ops)) (c ++ epilogue (frame_size n))) (load_is n 10 b.value) h)
+      (subst (λ c. Holds s (ops_address b + 4 * length (ops_code 0 b.ops)) (c ++ epilogue (frame_size n))) (load_is n 10 b.value) h)
 
   abbrev main_block : FlatBlock
   main_block = record { phis = []; code = instrs_of 0 b.ops; end = Ret (Some (operand_of b.value)) }

@@ -1,16 +1,12 @@
 -- The plain flat body of the module of a `main` is its flat body.
-use Rattle.std.proofs.Common.{◌≡◌, ◌≢◌, ℕ, zero, suc, ◌+◌, ◌%◌, ◌<◌, ◌≤◌, Bool, true, false, cond, not, ◌==◌, nat_eq, List, [], ◌∷◌, ◌++◌, length, map, Option, Some, None, refl, sym, ap, ap₂, ◌∙◌, subst, arith}
-use Rattle.std.specs.List.{filter_map, flat_map, position_or_len}
+use Rattle.std.proofs.Common.{◌≡◌, ℕ, zero, suc, ◌+◌, ◌%◌, ◌<◌, ◌≤◌, Bool, true, false, cond, not, ◌==◌, List, [], ◌∷◌, length, map, refl, sym, ap, ap₂, ◌∙◌, arith}
+use Rattle.std.specs.List.{filter_map, position_or_len}
 use Rattle.std.proofs.lemmas.Bool.Decides.{nat_tests}
 use Rattle.std.proofs.lemmas.List.{append-nil}
 use Rattle.oi_base.specs.declared.words.Width.TheVariants.{W32}
-use Rattle.oi_base.specs.declared.ids.RegId.{RegId}
-use Rattle.ir_core.specs.declared.flat.FlatOp.{FlatOp}
 use Rattle.ir_core.specs.declared.flat.FlatOp.TheVariants as operand
 use Rattle.ir_core.specs.declared.flat.FlatInstr.{FlatInstr}
 use Rattle.ir_core.specs.declared.flat.FlatInstr.TheVariants.{Bin}
-use Rattle.ir_core.specs.declared.flat.FlatEnd.TheVariants as flat_end
-use Rattle.ir_core.specs.declared.flat.Phi.{Phi}
 use Rattle.ir_core.specs.declared.op.LocalId.{LocalId}
 use Rattle.ir_core.specs.declared.func.Instr.{Instr}
 use Rattle.ir_core.specs.declared.func.Func.{Func}
@@ -23,7 +19,7 @@ use Rattle.optinline.specs.declared.body.Value.TheVariants.{Reg, Word}
 use Rattle.optinline.specs.declared.body.Op.{Op}
 use Rattle.optinline.specs.declared.body.Body.{Body}
 use Rattle.optinline.specs.Parsing.{IsKnown, OpIsKnown}
-use Rattle.optinline.specs.Meaning.{operand_of, bin_op, instr_of, instrs_of, flat_body, AreDefined, IsDefined, i32, ir_operand, ir_instr, ir_instrs, ir_block, ir_main, module_of}
+use Rattle.optinline.specs.Meaning.{operand_of, bin_op, instr_of, instrs_of, flat_body, AreDefined, IsDefined, i32, ir_operand, ir_instrs, ir_main, module_of}
 
 -- ---- the registers are numbered in order
 

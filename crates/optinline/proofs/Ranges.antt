@@ -1,5 +1,5 @@
 -- Each instruction of the code of `main` has a word.
-use Rattle.std.proofs.Common.{◌≡◌, ℕ, ◌+◌, ◌*◌, ◌%◌, ◌<◌, ◌≤◌, refl, subst, arith, Bool, true, false, nat_le, if◌then◌else◌, ◌==◌, List, [], ◌∷◌, ◌++◌, length, All, pos, neg_ℤ}
+use Rattle.std.proofs.Common.{◌≡◌, ℕ, ◌+◌, ◌%◌, ◌<◌, ◌≤◌, refl, arith, Bool, true, false, nat_le, if◌then◌else◌, ◌==◌, List, [], ◌∷◌, ◌++◌, length, All, pos, neg_ℤ}
 use Rattle.std.proofs.lemmas.Bool.Decides.{nat_tests}
 use Rattle.std.proofs.lemmas.Int.{ints}
 use Rattle.std.proofs.lemmas.List.Elements.{All-append, All-cons}
@@ -97,8 +97,8 @@ stub_ranges : (d : ℕ) → All InRange (stub d)
 stub_ranges d =
     let tail = rv.Addi 17 0 (pos 3) ∷ rv.Ecall ∷ [] in
     All-cons InRange (rv.Auipc 1 (hi d)) (rv.Jalr 1 1 (lo d) ∷ tail) (omega arith, hi_signed d)
-      (All-cons InRange (rv.Jalr 1 1 (lo d)) tail (omega arith, omega arith, lo_signed d)
-        (All-cons InRange (rv.Addi 17 0 (pos 3)) (rv.Ecall ∷ []) (omega arith, omega arith, small_signed 3 (omega arith)) (one rv.Ecall tt)))
+    (All-cons InRange (rv.Jalr 1 1 (lo d)) tail (omega arith, omega arith, lo_signed d)
+    (All-cons InRange (rv.Addi 17 0 (pos 3)) (rv.Ecall ∷ []) (omega arith, omega arith, small_signed 3 (omega arith)) (one rv.Ecall tt)))
 
 load_ranges : (r : ℕ) (v : Value) → r < 32 → All InRange (load r v)
 load_ranges r (Reg k) h = slot_ranges r (slot k) h

@@ -4,7 +4,7 @@ use Rattle.std.specs.Fn.{iterate}
 use Rattle.oi_base.specs.Follows.{Status, Going, Ended, Undefined, Stuck, Seen, IsLasting}
 use Rattle.ir_core.specs.declared.flat.FlatBlock.{FlatBlock}
 use Rattle.ir_core.specs.Flat.{Program, Run, Effect, Sets, Allocates, Stores, Puts, Takes, Enters, Goes, Returns, Stops, NoMeaning, NoValue, applied, entered, goes_into, what_stands, block_of, in_block, turn_of, flat_step, flat_start, flat_run, seen}
-use Rattle.rv_isa.specs.Isa.{Machine, Stop, Stack}
+use Rattle.rv_isa.specs.Isa.{Machine, Stack}
 use Rattle.rv_isa.specs.Refines.{Agrees, Breaks, Overflows, Refines}
 
 module _ (p q : Program) (bodies : (f : ℕ) → p.body f ≡ q.body f) where

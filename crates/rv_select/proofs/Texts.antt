@@ -1,13 +1,12 @@
 -- A code whose bytes are loaded as the text stands there.
-use Rattle.std.proofs.Common.{◌≡◌, ℕ, suc, ◌+◌, ◌-◌, ◌*◌, ◌/◌, ◌%◌, ◌^◌, ◌<◌, ◌≤◌, refl, sym, ap, ◌∙◌, subst, arith, true, List, [], ◌∷◌, ◌++◌, length, length-append, append_assoc, All, get_or}
-use Rattle.std.specs.List.{flat_map}
+use Rattle.std.proofs.Common.{◌≡◌, ℕ, suc, ◌+◌, ◌*◌, ◌/◌, ◌%◌, ◌<◌, ◌≤◌, refl, sym, ap, ◌∙◌, subst, arith, List, [], ◌∷◌, ◌++◌, length, length-append, append_assoc, All, get_or}
 use Rattle.std.specs.Int.{w32, to_le_bytes}
 use Rattle.std.proofs.lemmas.Bool.Decides.{nat_tests}
 use Rattle.std.proofs.lemmas.Grind.{flat_map-append}
 use Rattle.std.proofs.lemmas.List.{get_or-append-add}
 use Rattle.rv_isa.specs.declared.rv.Rv.{Rv}
 use Rattle.rv_isa.specs.Words.{word_of, InRange}
-use Rattle.rv_isa.specs.Memory.{Segments, read, in_text, bytes_at_load, text_start, data_start, guard_start}
+use Rattle.rv_isa.specs.Memory.{Segments, read, bytes_at_load, text_start}
 use Rattle.rv_isa.specs.Laws.{Stands, Holds}
 use Rattle.rv_isa.proofs.Below.{word_below}
 use Rattle.rv_select.specs.Texts.{bytes_of}
@@ -62,9 +61,10 @@ module _ (s : Segments) (short : length s.text ≤ 4194304) where
   holds_behind front [] is_text ranges = tt
   holds_behind front (i ∷ code) is_text ranges =
       let next : (front ++ i ∷ []) ++ code ≡ front ++ (i ∷ code) = append_assoc front (i ∷ []) code in
-      let e : text_start + 4 * length (front ++ i ∷ []) ≡ text_start + 4 * length front + 4 = let l = length-append front (i ∷ []) in omega arith in
-      (stands_there front i code is_text (ranges 0 i (omega arith)),
-       subst (λ a. Holds s a code) e (holds_behind (front ++ i ∷ []) code (is_text ∙ sym (ap bytes_of next)) (λ k d h. ranges (suc k) d (omega arith))))
+      let e : text_start + 4 * length (front ++ i ∷ []) ≡ text_start + 4 * length front + 4 = let l = length-append front (i ∷ []) in omega arith in (
+        stands_there front i code is_text (ranges 0 i (omega arith)),
+        subst (λ a. Holds s a code) e (holds_behind (front ++ i ∷ []) code (is_text ∙ sym (ap bytes_of next)) (λ k d h. ranges (suc k) d (omega arith))),
+      )
 
   -- the whole text
   pub text_holds : (code : List Rv) → s.text ≡ bytes_of code → All InRange code → Holds s text_start code
