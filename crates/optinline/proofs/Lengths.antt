@@ -7,7 +7,8 @@ use Rattle.optinline.specs.declared.body.Op.{Op}
 use Rattle.optinline.specs.declared.body.Value.{Value}
 use Rattle.optinline.specs.declared.body.Value.TheVariants.{Reg, Word}
 use Rattle.optinline.specs.declared.body.Body.{Body}
-use Rattle.optinline.specs.Lowering.{zero, ra, sp, t0, t1, a0, hi, lo, slot, frame_size, is_short, load_word, load_slot, store_slot, frame_down, frame_up, prologue, epilogue, load, op_code, ops_code, main_code}
+use Rattle.rv_select.specs.Parts.{zero_register, ra, sp, t0, t1, a0, hi, lo, is_short, load_word, load_slot, store_slot, frame_down, frame_up, open_frame, epilogue}
+use Rattle.optinline.specs.Lowering.{slot, frame_size, load, op_code, ops_code, main_code}
 
 either : (b : Bool) (xs ys : List Rv) (n : ℕ) → length xs ≤ n → length ys ≤ n → length (if b then xs else ys) ≤ n
 either true xs ys n h k = h
@@ -54,6 +55,6 @@ unfolding main_code
 len-main_code b =
     let f = frame_size (length b.ops) in
     let down = joined (frame_down f) (rv.Sw sp ra (pos 0) ∷ []) 3 1 (len-frame_down f) (omega arith) in
-    let up = joined (rv.Lw ra sp (pos 0) ∷ [] ++ frame_up f) (rv.Jalr zero ra (pos 0) ∷ []) 4 1 (joined (rv.Lw ra sp (pos 0) ∷ []) (frame_up f) 1 3 (omega arith) (len-frame_up f)) (omega arith) in
-    let all = joined (prologue f ++ ops_code 0 b.ops ++ load a0 b.value) (epilogue f) (4 + 10 * length b.ops + 3) 5 (joined (prologue f ++ ops_code 0 b.ops) (load a0 b.value) (4 + 10 * length b.ops) 3 (joined (prologue f) (ops_code 0 b.ops) 4 (10 * length b.ops) down (len-ops_code 0 b.ops)) (len-load a0 b.value)) up in
+    let up = joined (rv.Lw ra sp (pos 0) ∷ [] ++ frame_up f) (rv.Jalr zero_register ra (pos 0) ∷ []) 4 1 (joined (rv.Lw ra sp (pos 0) ∷ []) (frame_up f) 1 3 (omega arith) (len-frame_up f)) (omega arith) in
+    let all = joined (open_frame f ++ ops_code 0 b.ops ++ load a0 b.value) (epilogue f) (4 + 10 * length b.ops + 3) 5 (joined (open_frame f ++ ops_code 0 b.ops) (load a0 b.value) (4 + 10 * length b.ops) 3 (joined (open_frame f) (ops_code 0 b.ops) 4 (10 * length b.ops) down (len-ops_code 0 b.ops)) (len-load a0 b.value)) up in
     omega arith

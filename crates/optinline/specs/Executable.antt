@@ -1,25 +1,21 @@
 -- The image of an executable: the start stub, the functions behind it, and their symbols.
 use Rattle.std.specs.Prelude.{ℕ, ◌+◌, ◌*◌, Bool, true, not, List, [], ◌∷◌, ◌++◌, length, filter, codes}
 use Rattle.std.specs.List.{flat_map}
-use Rattle.std.specs.Int.{w32, to_le_bytes}
 use Rattle.rv_isa.specs.declared.rv.Rv.{Rv}
-use Rattle.rv_isa.specs.Words.{word_of}
 use Rattle.elf_object.specs.Image.{Parts}
 use Rattle.elf_object.specs.File.{elf}
 use Rattle.elf_object.specs.declared.symbol.Symbol.{Symbol}
 use Rattle.elf_object.specs.declared.symbol.SymKind.TheVariants.{Func}
 use Rattle.optinline.specs.declared.body.Body.{Body}
-use Rattle.optinline.specs.Lowering.{stub, main_code}
+use Rattle.rv_select.specs.Parts.{stub}
+use Rattle.rv_select.specs.Texts.{bytes_of}
+use Rattle.optinline.specs.Lowering.{main_code}
 
 -- a function of the text: its name, whether other modules see it, and its code
 pub record Function : Type 0 where
   pub name : List ℕ
   pub global : Bool
   pub code : List Rv
-
--- the bytes of a code: its words, each with the lowest byte first
-abbrev pub bytes_of : List Rv → List ℕ
-bytes_of code = flat_map (λ i. to_le_bytes w32 (word_of i)) code
 
 -- the codes one behind another
 abbrev pub codes_of : List Function → List Rv

@@ -1,6 +1,9 @@
 pub mod Answer
+pub mod Delivered
 pub mod Executable
+pub mod Layout
 pub mod Lowering
+pub mod Meaning
 pub mod Parsing
 pub mod Reading
 pub mod Reply

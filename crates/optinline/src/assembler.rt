@@ -1,6 +1,6 @@
 ghost use Rattle.std.specs.Prelude.{◌≡◌, ◌*◌, ◌++◌, ◌∷◌, [], OnOk, IfOk, length};
 ghost use Rattle.rv_isa.specs.Words.{InRange};
-ghost use Rattle.optinline.specs.Executable.{bytes_of};
+ghost use Rattle.rv_select.specs.Texts.{bytes_of};
 
 use oi_base::{NoMemory, Text};
 use rv_isa::{Rv, encode};

@@ -2,7 +2,8 @@ ghost use Rattle.std.specs.Prelude.{◌≡◌, ◌<◌, ◌≤◌, ◌+◌, ◌*
 ghost use Rattle.rv_isa.specs.Words.{InRange, IsSigned};
 ghost use Rattle.oi_base.specs.Words.{signed_of};
 ghost use Rattle.optinline.specs.Parsing.{IsKnown, OpIsKnown, IsKnownBody};
-ghost use Rattle.optinline.specs.Lowering.{hi, lo, slot, frame_size, load_word, far_base, load_slot, store_slot, large_frame, frame_down, frame_up, prologue, epilogue, load, machine_op, op_code, ops_code, main_code, stub};
+ghost use Rattle.rv_select.specs.Parts.{hi, lo, load_word, far_base, load_slot, store_slot, large_frame, frame_down, frame_up, open_frame, epilogue, stub};
+ghost use Rattle.optinline.specs.Lowering.{slot, frame_size, load, machine_op, op_code, ops_code, main_code};
 
 use crate::assembler::Assembler;
 use crate::body::{Body, Op, Sum, Value};
@@ -27,7 +28,7 @@ fn signed(bits: u32, sign: u32) -> i32
 }
 
 /// The upper part of a word, for `lui` and `auipc`.
-#[tactic(auto, unfolding(crate::specs::Lowering::hi))]
+#[tactic(auto, unfolding(rv_select::specs::Parts::hi))]
 fn hi(w: u32) -> i32
     requires { w < 4294967296 }
     ensures value { result ≡ hi w }
@@ -37,7 +38,7 @@ fn hi(w: u32) -> i32
 }
 
 /// The lower part of a word, which an instruction behind them adds.
-#[tactic(auto, unfolding(crate::specs::Lowering::lo))]
+#[tactic(auto, unfolding(rv_select::specs::Parts::lo))]
 fn lo(w: u32) -> i32
     ensures value { result ≡ lo w }
     ensures range { IsSigned 11 result }
@@ -46,7 +47,7 @@ fn lo(w: u32) -> i32
 }
 
 /// Appends what loads a word into a register.
-#[tactic(auto, unfolding(crate::specs::Lowering::load_word))]
+#[tactic(auto, unfolding(rv_select::specs::Parts::load_word))]
 fn push_word(code: &mut Assembler, r: X, w: u32) -> Result<(), NoMemory>
     requires { r < 32 }
     ensures { OnOk result (code.new ≡ code.old ++ load_word r w) }
@@ -71,7 +72,7 @@ fn push_far_base(code: &mut Assembler, r: X, offset: u32) -> Result<(), NoMemory
 }
 
 /// Appends what loads the slot at an offset into a register.
-#[tactic(auto, unfolding(crate::specs::Lowering::load_slot))]
+#[tactic(auto, unfolding(rv_select::specs::Parts::load_slot))]
 fn push_load(code: &mut Assembler, r: X, offset: u32) -> Result<(), NoMemory>
     requires { r < 32 }
     ensures { OnOk result (code.new ≡ code.old ++ load_slot r offset) }
@@ -84,7 +85,7 @@ fn push_load(code: &mut Assembler, r: X, offset: u32) -> Result<(), NoMemory>
 }
 
 /// Appends what stores a register into the slot at an offset.
-#[tactic(auto, unfolding(crate::specs::Lowering::store_slot))]
+#[tactic(auto, unfolding(rv_select::specs::Parts::store_slot))]
 fn push_store(code: &mut Assembler, r: X, offset: u32) -> Result<(), NoMemory>
     requires { r < 32 }
     ensures { OnOk result (code.new ≡ code.old ++ store_slot r offset) }
@@ -105,7 +106,7 @@ fn push_large_frame(code: &mut Assembler, frame: u32) -> Result<(), NoMemory>
 }
 
 /// Appends what moves the stack pointer down by a frame.
-#[tactic(auto, unfolding(crate::specs::Lowering::frame_down))]
+#[tactic(auto, unfolding(rv_select::specs::Parts::frame_down))]
 fn push_frame_down(code: &mut Assembler, frame: u32) -> Result<(), NoMemory>
     ensures { OnOk result (code.new ≡ code.old ++ frame_down frame) }
 {
@@ -117,7 +118,7 @@ fn push_frame_down(code: &mut Assembler, frame: u32) -> Result<(), NoMemory>
 }
 
 /// Appends what moves the stack pointer up by a frame.
-#[tactic(auto, unfolding(crate::specs::Lowering::frame_up))]
+#[tactic(auto, unfolding(rv_select::specs::Parts::frame_up))]
 fn push_frame_up(code: &mut Assembler, frame: u32) -> Result<(), NoMemory>
     ensures { OnOk result (code.new ≡ code.old ++ frame_up frame) }
 {
@@ -129,8 +130,8 @@ fn push_frame_up(code: &mut Assembler, frame: u32) -> Result<(), NoMemory>
 }
 
 /// Appends what opens a frame.
-fn push_prologue(code: &mut Assembler, frame: u32) -> Result<(), NoMemory>
-    ensures { OnOk result (code.new ≡ code.old ++ prologue frame) }
+fn push_open_frame(code: &mut Assembler, frame: u32) -> Result<(), NoMemory>
+    ensures { OnOk result (code.new ≡ code.old ++ open_frame frame) }
 {
     push_frame_down(code, frame)?;
     code.push(Rv::Sw(X::SP, X::RA, 0))
@@ -216,7 +217,7 @@ fn push_main(code: &mut Assembler, body: &Body) -> Result<(), NoMemory>
     ensures { OnOk result (code.new ≡ code.old ++ main_code body.now) }
 {
     let frame = frame_size(body.ops.len() as u32);
-    push_prologue(code, frame)?;
+    push_open_frame(code, frame)?;
     push_ops(code, body.ops.as_slice())?;
     push_value(code, X::A0, body.value)?;
     push_epilogue(code, frame)

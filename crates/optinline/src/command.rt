@@ -1,8 +1,9 @@
-ghost use Rattle.std.specs.Prelude.{◌≡◌, ◌≢◌, ◌<◌, ◌↔◌, ◌⊎◌, IsErrOf, IfOk, IfSome, None, []};
+ghost use Rattle.std.specs.Prelude.{◌≡◌, ◌≢◌, ◌<◌, ◌↔◌, ◌⊎◌, IsErrOf, IfOk, IfSome, None, Some, []};
 ghost use Rattle.std.specs.Option.{option_map};
-ghost use Rattle.oi_world.specs.Desk.{HasCause, read_of};
+ghost use Rattle.oi_world.specs.Desk.{Files, HasCause, read_of};
 ghost use Rattle.oi_world.specs.declared.desk.DeskFault.TheVariants.{Absent};
 ghost use Rattle.optinline.specs.Words.{texts_of, command_of};
+ghost use Rattle.optinline.specs.Delivered.{Delivers};
 ghost use Rattle.optinline.specs.Answer.{Answer, answer_of, IsAnswer, HasCauses, IsAbsent, IsTooLong, IsLeftOut, IsAccepted, IsStatus, IsUntouched, Answered, Interrupted, Fronted, Leaves, Runs};
 
 use crate::answer::{MODULE_LIMIT, build_reply, refuse};
@@ -66,6 +67,7 @@ fn run<D: Desk>(alloc: Global, words: &[String], desk: &mut D) -> Result<u8, Des
     requires { D.faults desk.old < 18446744073709551615 }
     ensures runs { IfSome (D.files desk.old) (λ files. Runs (texts_of words.now) files (D.files desk.old) (D.files desk.new) (D.said desk.old) (D.said desk.new) result) }
     ensures causes { IfOk result (λ status. IfSome (D.files desk.old) (λ files. HasCauses (texts_of words.now) files status)) }
+    ensures delivers { IfOk result (λ status. status ≡ 0 → IfSome (D.files desk.old) (λ files. (after : Files) × (D.files desk.new ≡ Some after) × Delivers (texts_of words.now) files after)) }
     ensures words { IfOk result (λ status. (status ≡ 2) ↔ (command_of (texts_of words.now) ≡ None)) }
     ensures status { IfOk result (λ status. IsStatus status) }
     ensures no_end { IfOk result (λ status. (status ≢ 3) × (status ≢ 12)) }
@@ -89,6 +91,11 @@ pub fn tool<D: Desk>(alloc: Global, words: &[String], desk: &mut D) -> u8
     // Where no call of the desk failed and memory was found, the run is answered whole.
     ensures answered { result ≢ 3 → result ≢ 12 → IfSome (D.files desk.old) (λ files.
         (a : Answer) × IsAnswer (texts_of words.now) files a × Answered a result (D.files desk.old) (D.files desk.new) (D.said desk.old) (D.said desk.new)) }
+
+    // Where the answer is 0, the words are a build of a module in the accepted text. OBJECT is the ELF file of an image
+    // that, on every input, does what the module says as long as that is defined, in both directions; its text has the
+    // size of the map that DECISIONS holds, no map gives less, and CERT is the certificate of that.
+    ensures refines { result ≡ 0 → IfSome (D.files desk.old) (λ files. (after : Files) × (D.files desk.new ≡ Some after) × Delivers (texts_of words.now) files after) }
 
     // Each status comes exactly where its cause holds.
     ensures words { result ≢ 3 → result ≢ 12 → (result ≡ 2) ↔ (command_of (texts_of words.now) ≡ None) }

@@ -7,6 +7,7 @@ mod body;
 mod code;
 mod command;
 mod executable;
+mod laws;
 mod names;
 mod reading;
 mod reply;

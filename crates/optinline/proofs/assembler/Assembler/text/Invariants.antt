@@ -1,5 +1,5 @@
 use Rattle.std.proofs.Common.{◌≡◌, ◌*◌, take, vec_len}
-use Rattle.optinline.specs.Executable.{bytes_of}
+use Rattle.rv_select.specs.Texts.{bytes_of}
 use Rattle.optinline.proofs.assembler.Assembler.text.Given as goal
 
 abbrev pub invariant-loop-i : goal.invariant-loop-i

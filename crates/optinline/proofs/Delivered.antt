@@ -1,0 +1,200 @@
+-- What a build that is done leaves.
+use Rattle.std.proofs.Common.{◌≡◌, ◌≢◌, ℕ, ◌+◌, ◌*◌, ◌<◌, ◌≤◌, Bool, true, false, cond, not, ◌&&◌, if◌then◌else◌, List, [], ◌∷◌, ◌++◌, length, length-append, Option, Some, None, All, refl, sym, ap, ◌∙◌, subst, arith}
+use Rattle.std.specs.Prelude.{nat_lt, IfSome, MatchBool, codes}
+use Rattle.std.specs.Option.{option_and_then}
+use Rattle.std.specs.Str.{bytes_eq}
+use Rattle.std.specs.FinMap as finite
+use Rattle.std.proofs.lemmas.Cmp.{nat_list_cmp_total}
+use Rattle.std.proofs.lemmas.Map.Text.{is_eq-slice_cmp}
+use Rattle.std.proofs.lemmas.Slice.Eq.{bytes_eq-Decides}
+use Rattle.std.proofs.lemmas.List.{append-nil}
+use Rattle.std.proofs.lemmas.List.Elements.{All-cons}
+use Rattle.std.proofs.Math.Nat.{le_refl}
+use Rattle.oi_world.specs.Desk.{Files}
+use Rattle.elf_object.specs.declared.symbol.Symbol.{Symbol}
+use Rattle.elf_object.specs.declared.symbol.SymKind.TheVariants.{Func}
+use Rattle.elf_object.specs.Image.{Parts, IsNamed, HasWords, IsImage, IsLocalFirst, string_table, symbol_table_size}
+use Rattle.rv_select.proofs.Texts.{bytes_length}
+use Rattle.rv_select.specs.Parts.{stub}
+use Rattle.rv_select.specs.Texts.{bytes_of}
+use Rattle.optinline.specs.declared.body.Body.{Body}
+use Rattle.optinline.specs.Lowering.{frame_size, size, main_code}
+use Rattle.optinline.specs.Executable.{image, main_function, object}
+use Rattle.optinline.specs.Reading.{Reads}
+use Rattle.optinline.specs.Reply.{after_writes}
+use Rattle.optinline.specs.Words.{Words, files_differ, checked, budget_of, command_of}
+use Rattle.optinline.specs.Answer.{Answer, refusal, built, certificate, module_limit, IsModuleAnswer, left_out, accepted, IsFileAnswer, IsCommandAnswer, IsAnswer}
+use Rattle.optinline.specs.Meaning.{IsDefined, module_of}
+use Rattle.optinline.specs.Delivered.{DoesAs, Delivers}
+use Rattle.optinline.proofs.Defined.{reads_defined}
+use Rattle.optinline.proofs.Lengths.{len-main_code}
+use Rattle.optinline.proofs.Refined.{image_refines_module}
+
+-- ---- files
+
+get_file : (files : Files) (name other bytes : List ℕ) (c : Bool) → bytes_eq name other ≡ c → finite.get (finite.insert files other bytes) name ≡ cond c (Some bytes) (finite.get files name)
+get_file files name other bytes c e =
+    finite.get-insert nat_list_cmp_total files other bytes name ∙ ap (λ (b : Bool). cond b (Some bytes) (finite.get files name)) (is_eq-slice_cmp name other ∙ e)
+
+same_name : (name : List ℕ) → bytes_eq name name ≡ true
+same_name name = (bytes_eq-Decides name name).1 refl
+
+-- the names of a command's files differ
+last_three : (a b c d e f : Bool) → (not a && (not b && (not c && (not d && (not e && not f))))) ≡ true → (d ≡ false) × (e ≡ false) × (f ≡ false)
+last_three true b c d e f h = absurd (cc)
+last_three false true c d e f h = absurd (cc)
+last_three false false true d e f h = absurd (cc)
+last_three false false false true e f h = absurd (cc)
+last_three false false false false true f h = absurd (cc)
+last_three false false false false false true h = absurd (cc)
+last_three false false false false false false h = (refl, refl, refl)
+
+pub record Differ (w : Words) : Type 0 where
+  pub object_decisions : bytes_eq w.object w.decisions ≡ false
+  pub object_cert : bytes_eq w.object w.cert ≡ false
+  pub decisions_cert : bytes_eq w.decisions w.cert ≡ false
+
+differ : (w : Words) → files_differ w ≡ true → Differ w
+differ w e =
+    let t = last_three (bytes_eq w.«module» w.object) (bytes_eq w.«module» w.decisions) (bytes_eq w.«module» w.cert) (bytes_eq w.object w.decisions) (bytes_eq w.object w.cert) (bytes_eq w.decisions w.cert) e in
+    record { object_decisions = t.0; object_cert = t.1; decisions_cert = t.2 }
+
+no_words : (w : Words) → None ≡ Some w → ⊥
+no_words w e = cc
+
+checked_differ : (v w : Words) (c : Bool) → files_differ v ≡ c → (if c then Some v else None) ≡ Some w → Differ w
+checked_differ v w true e h = subst Differ (same h) (differ v e)
+  where
+    same : Some v ≡ Some w → v ≡ w
+    same h = cc
+checked_differ v w false e h = absurd (no_words w h)
+
+budget_differ : (m o d c : List ℕ) (w : Words) (b : Option ℕ) → option_and_then (λ budget. checked (record { «module» = m; object = o; decisions = d; cert = c; budget = budget })) b ≡ Some w → Differ w
+budget_differ m o d c w None h = absurd (no_words w h)
+budget_differ m o d c w (Some n) h = let v : Words = record { «module» = m; object = o; decisions = d; cert = c; budget = n } in checked_differ v w (files_differ v) refl h
+
+build_differ : (m o d c last : List ℕ) (w : Words) (t : Bool) → (if t then option_and_then (λ budget. checked (record { «module» = m; object = o; decisions = d; cert = c; budget = budget })) (budget_of last) else None) ≡ Some w → Differ w
+build_differ m o d c last w true h = budget_differ m o d c w (budget_of last) h
+build_differ m o d c last w false h = absurd (no_words w h)
+
+command_differ : (words : List (List ℕ)) (w : Words) → command_of words ≡ Some w → Differ w
+command_differ [] w h = absurd (no_words w h)
+command_differ (a ∷ []) w h = absurd (no_words w h)
+command_differ (a ∷ m ∷ []) w h = absurd (no_words w h)
+command_differ (a ∷ m ∷ o ∷ []) w h = absurd (no_words w h)
+command_differ (a ∷ m ∷ o ∷ d ∷ []) w h = absurd (no_words w h)
+command_differ (a ∷ m ∷ o ∷ d ∷ c ∷ []) w h = absurd (no_words w h)
+command_differ (a ∷ m ∷ o ∷ d ∷ c ∷ last ∷ []) w h = build_differ m o d c last w (bytes_eq a (codes "build")) h
+command_differ (a ∷ m ∷ o ∷ d ∷ c ∷ last ∷ more ∷ rest) w h = absurd (no_words w h)
+
+-- ---- the object
+
+main_not_zero : All (λ (b : ℕ). b ≢ 0) (109 ∷ 97 ∷ 105 ∷ 110 ∷ [])
+main_not_zero =
+    let P : ℕ → Type 0 = λ b. b ≢ 0 in
+    All-cons P 109 (97 ∷ 105 ∷ 110 ∷ []) (λ e. absurd (omega arith)) (All-cons P 97 (105 ∷ 110 ∷ []) (λ e. absurd (omega arith)) (All-cons P 105 (110 ∷ []) (λ e. absurd (omega arith)) (All-cons P 110 [] (λ e. absurd (omega arith)) (λ k d h. absurd (omega arith)))))
+
+module _ (b : Body) (few : length b.ops ≤ 400) where
+  abbrev i : Parts
+  i = image 16 (main_function b ∷ [])
+
+  text_size : length i.text ≡ size b
+  unfolding image
+  text_size =
+      let l = length-append (stub 16) (main_code b) in
+      ap (λ c. length (bytes_of (stub 16 ++ c))) (append-nil (main_code b)) ∙ bytes_length (stub 16 ++ main_code b) ∙ (let z : 4 * length (stub 16 ++ main_code b) ≡ size b = omega arith in z)
+
+  no_data : i.data_bytes ≡ []
+  unfolding image
+  no_data = refl
+
+  abbrev main_symbol : Symbol
+  main_symbol = record { name = codes "main"; value = 65552; size = 4 * length (main_code b); kind = Func; global = true }
+
+  one_symbol : i.symbols ≡ main_symbol ∷ []
+  unfolding image
+  one_symbol = refl
+
+  bounds : IsImage i
+  bounds =
+      let m = len-main_code b in
+      record {
+        text_least = omega (arith, text_size);
+        text_most = omega (arith, text_size);
+        text_words = omega (arith, text_size);
+        data_most = subst (λ (d : List ℕ). length d ≤ 1048576) (sym no_data) (omega arith);
+        named = subst (All IsNamed) (sym one_symbol) (All-cons IsNamed main_symbol [] (record { not_empty = omega arith; no_zero = main_not_zero }) (λ k d h. absurd (omega arith)));
+        local_first = subst IsLocalFirst (sym one_symbol) (λ g k d h. absurd (omega arith), tt);
+        symbols_most = subst (λ ss. symbol_table_size ss + length (string_table ss) ≤ 1073741824) (sym one_symbol) (omega arith);
+      }
+
+  symbol_words : All HasWords i.symbols
+  symbol_words =
+      let m = len-main_code b in
+      subst (All HasWords) (sym one_symbol) (All-cons HasWords main_symbol [] (record { value = omega arith; size = omega arith }) (λ k d h. absurd (omega arith)))
+
+  -- ---- the files
+
+  does_as : (names : List (List ℕ)) → IsDefined b → DoesAs (module_of names b) (frame_size (length b.ops)) (object b) i
+  does_as names defined = record { file = refl; bounds = bounds; words = symbol_words; refines = image_refines_module names b defined }
+
+-- the files after a build of this `main`
+written : (words : List (List ℕ)) (w : Words) (before : Files) (bytes : List ℕ) (b : Body) (fs' : Option Files) → command_of words ≡ Some w → finite.get before w.«module» ≡ Some bytes → Reads bytes b → (a : Answer) → a ≡ built w b → fs' ≡ after_writes a.writes (Some before) → (after : Files) × (fs' ≡ Some after) × Delivers words before after
+unfolding built
+written words w before bytes b fs' command file read a is left =
+    let d = command_differ words w command in
+    let defined = reads_defined bytes b read in
+    let after1 = finite.insert before w.object (object b) in
+    let after2 = finite.insert after1 w.decisions [] in
+    let after3 = finite.insert after2 w.cert (certificate b) in (
+      after3,
+      left ∙ ap (λ (x : Answer). after_writes x.writes (Some before)) is,
+      record {
+        build = w;
+        bytes = bytes;
+        main = b;
+        object = object b;
+        image = image 16 (main_function b ∷ []);
+        map = [];
+        command = command;
+        file = file;
+        read = read;
+        object_file = get_file after2 w.object w.cert (certificate b) false d.object_cert ∙ get_file after1 w.object w.decisions [] false d.object_decisions ∙ get_file before w.object w.object (object b) true (same_name w.object);
+        does = does_as b defined.few read.parsed.names defined;
+        text = text_size b defined.few;
+        over = refl;
+        decisions_file = get_file after2 w.decisions w.cert (certificate b) false d.decisions_cert ∙ get_file after1 w.decisions w.decisions [] true (same_name w.decisions);
+        least = λ other h. le_refl (size b);
+        certificate_file = get_file after2 w.cert w.cert (certificate b) true (same_name w.cert);
+      },
+    )
+
+module _ (words : List (List ℕ)) (before : Files) (fs' : Option Files) (a : Answer) (zero : a.status ≡ 0) (left : fs' ≡ after_writes a.writes (Some before)) where
+  abbrev Done : Type 0
+  Done = (after : Files) × (fs' ≡ Some after) × Delivers words before after
+
+  other_status : (n : ℕ) (text : List ℕ) → 0 < n → a ≡ refusal n text → ⊥
+  other_status n text h e = let s = ap (λ (x : Answer). x.status) e in omega (arith, s, zero)
+
+  on_module : (w : Words) (bytes : List ℕ) → command_of words ≡ Some w → finite.get before w.«module» ≡ Some bytes → IsModuleAnswer w bytes a → Done
+  on_module w bytes command file (left_out none e) = absurd (other_status 4 (codes "module 1:1 left out\n") (omega arith) e)
+  on_module w bytes command file (accepted b read e) = written words w before bytes b fs' command file read a e left
+
+  on_length : (w : Words) (bytes : List ℕ) (long : Bool) → command_of words ≡ Some w → finite.get before w.«module» ≡ Some bytes → MatchBool long (a ≡ refusal 9 (codes "too long " ++ w.«module» ++ codes "\n")) (IsModuleAnswer w bytes a) → Done
+  on_length w bytes true command file e = absurd (other_status 9 (codes "too long " ++ w.«module» ++ codes "\n") (omega arith) e)
+  on_length w bytes false command file h = on_module w bytes command file h
+
+  on_file : (w : Words) (file : Option (List ℕ)) → command_of words ≡ Some w → finite.get before w.«module» ≡ file → IsFileAnswer w file a → Done
+  on_file w None command file e = absurd (other_status 18 (codes "absent " ++ w.«module» ++ codes "\n") (omega arith) e)
+  on_file w (Some bytes) command file h = on_length w bytes (nat_lt module_limit (length bytes)) command file h
+
+  on_command : (c : Option Words) → command_of words ≡ c → IsCommandAnswer c before a → Done
+  on_command None command e = absurd (other_status 2 (codes "words\n") (omega arith) e)
+  on_command (Some w) command h = on_file w (finite.get before w.«module») command refl h
+
+  pub answer_delivers : IsAnswer words before a → Done
+  answer_delivers h = on_command (command_of words) refl h
+
+pub delivered : (fs now fs' : Option Files) (words : List (List ℕ)) (a : Answer) → IfSome fs (λ files. IsAnswer words files a) → now ≡ fs → fs' ≡ after_writes a.writes now → a.status ≡ 0 → IfSome fs (λ files. (after : Files) × (fs' ≡ Some after) × Delivers words files after)
+delivered None now fs' words a h same left z = tt
+delivered (Some files) now fs' words a h same left z = answer_delivers words files fs' a z (left ∙ ap (after_writes a.writes) same) h

@@ -1,0 +1,127 @@
+-- Each instruction of the code of `main` has a word.
+use Rattle.std.proofs.Common.{◌≡◌, ℕ, ◌+◌, ◌%◌, ◌<◌, ◌≤◌, refl, arith, Bool, true, false, nat_le, if◌then◌else◌, ◌==◌, List, [], ◌∷◌, ◌++◌, length, All, pos, neg_ℤ}
+use Rattle.std.proofs.lemmas.Bool.Decides.{nat_tests}
+use Rattle.std.proofs.lemmas.Int.{ints}
+use Rattle.std.proofs.lemmas.List.Elements.{All-append, All-cons}
+use Rattle.rv_isa.specs.declared.rv.Rv.{Rv}
+use Rattle.rv_isa.specs.declared.rv.Rv.TheVariants as rv
+use Rattle.rv_isa.specs.Words.{InRange, IsSigned}
+use Rattle.rv_select.specs.Parts.{hi, lo, is_short, load_word, far_base, load_slot, store_slot, large_frame, frame_down, frame_up, open_frame, epilogue, stub}
+use Rattle.optinline.specs.declared.body.Value.{Value}
+use Rattle.optinline.specs.declared.body.Value.TheVariants.{Reg, Word}
+use Rattle.optinline.specs.declared.body.Sum.{Sum}
+use Rattle.optinline.specs.declared.body.Sum.TheVariants.{Add, Sub}
+use Rattle.optinline.specs.declared.body.Op.{Op}
+use Rattle.optinline.specs.declared.body.Body.{Body}
+use Rattle.optinline.specs.Lowering.{slot, frame_size, load, machine_op, op_code, ops_code, main_code}
+
+hi_signed : (w : ℕ) → IsSigned 19 (hi w)
+unfolding hi
+hi_signed w = grind (arith, nat_tests, ints)
+
+lo_signed : (w : ℕ) → IsSigned 11 (lo w)
+unfolding lo
+lo_signed w = grind (arith, nat_tests, ints)
+
+small_signed : (n : ℕ) → n ≤ 2047 → IsSigned 11 (pos n)
+small_signed n h = grind (arith, nat_tests, ints)
+
+down_signed : (n : ℕ) → n ≤ 2032 → IsSigned 11 (neg_ℤ (pos n))
+down_signed n h = grind (arith, nat_tests, ints)
+
+none : All InRange []
+none k d h = absurd (omega arith)
+
+one : (i : Rv) → InRange i → All InRange (i ∷ [])
+one i h = All-cons InRange i [] h none
+
+both : (a b : List Rv) → All InRange a → All InRange b → All InRange (a ++ b)
+both a b h k = All-append InRange a b h k
+
+word_by : (r w : ℕ) (c d : Bool) → r < 32 → All InRange (if c then rv.Addi r 0 (lo w) ∷ [] else rv.Lui r (hi w) ∷ (if d then [] else rv.Addi r r (lo w) ∷ []))
+word_by r w true d h = one (rv.Addi r 0 (lo w)) (h, omega arith, lo_signed w)
+word_by r w false true h = one (rv.Lui r (hi w)) (h, hi_signed w)
+word_by r w false false h = All-cons InRange (rv.Lui r (hi w)) (rv.Addi r r (lo w) ∷ []) (h, hi_signed w) (one (rv.Addi r r (lo w)) (h, h, lo_signed w))
+
+word_ranges : (r w : ℕ) → r < 32 → All InRange (load_word r w)
+unfolding load_word
+word_ranges r w h = word_by r w (is_short w) (w % 4096 == 0) h
+
+far_ranges : (r o : ℕ) → r < 32 → All InRange (far_base r o)
+far_ranges r o h = All-cons InRange (rv.Lui r (hi o)) (rv.Add r r 2 ∷ []) (h, hi_signed o) (one (rv.Add r r 2) (h, h, omega arith))
+
+load_by : (r o : ℕ) (c : Bool) → nat_le o 2047 ≡ c → r < 32 → All InRange (if c then rv.Lw r 2 (pos o) ∷ [] else far_base r o ++ rv.Lw r r (lo o) ∷ [])
+load_by r o true e h = one (rv.Lw r 2 (pos o)) (h, omega arith, small_signed o (grind (arith, nat_tests)))
+load_by r o false e h = both (far_base r o) (rv.Lw r r (lo o) ∷ []) (far_ranges r o h) (one (rv.Lw r r (lo o)) (h, h, lo_signed o))
+
+slot_ranges : (r o : ℕ) → r < 32 → All InRange (load_slot r o)
+unfolding load_slot
+slot_ranges r o h = load_by r o (nat_le o 2047) refl h
+
+store_by : (r o : ℕ) (c : Bool) → nat_le o 2047 ≡ c → r < 32 → All InRange (if c then rv.Sw 2 r (pos o) ∷ [] else far_base 7 o ++ rv.Sw 7 r (lo o) ∷ [])
+store_by r o true e h = one (rv.Sw 2 r (pos o)) (omega arith, h, small_signed o (grind (arith, nat_tests)))
+store_by r o false e h = both (far_base 7 o) (rv.Sw 7 r (lo o) ∷ []) (far_ranges 7 o (omega arith)) (one (rv.Sw 7 r (lo o)) (omega arith, h, lo_signed o))
+
+store_ranges : (r o : ℕ) → r < 32 → All InRange (store_slot r o)
+unfolding store_slot
+store_ranges r o h = store_by r o (nat_le o 2047) refl h
+
+large_ranges : (f : ℕ) → All InRange (large_frame f)
+large_ranges f = All-cons InRange (rv.Lui 5 (hi f)) (rv.Addi 5 5 (lo f) ∷ []) (omega arith, hi_signed f) (one (rv.Addi 5 5 (lo f)) (omega arith, omega arith, lo_signed f))
+
+down_by : (f : ℕ) (c : Bool) → nat_le f 2032 ≡ c → All InRange (if c then rv.Addi 2 2 (neg_ℤ (pos f)) ∷ [] else large_frame f ++ rv.Sub 2 2 5 ∷ [])
+down_by f true e = one (rv.Addi 2 2 (neg_ℤ (pos f))) (omega arith, omega arith, down_signed f (grind (arith, nat_tests)))
+down_by f false e = both (large_frame f) (rv.Sub 2 2 5 ∷ []) (large_ranges f) (one (rv.Sub 2 2 5) (omega arith, omega arith, omega arith))
+
+up_by : (f : ℕ) (c : Bool) → nat_le f 2032 ≡ c → All InRange (if c then rv.Addi 2 2 (pos f) ∷ [] else large_frame f ++ rv.Add 2 2 5 ∷ [])
+up_by f true e = one (rv.Addi 2 2 (pos f)) (omega arith, omega arith, small_signed f (grind (arith, nat_tests)))
+up_by f false e = both (large_frame f) (rv.Add 2 2 5 ∷ []) (large_ranges f) (one (rv.Add 2 2 5) (omega arith, omega arith, omega arith))
+
+down_ranges : (f : ℕ) → All InRange (frame_down f)
+unfolding frame_down
+down_ranges f = down_by f (nat_le f 2032) refl
+
+up_ranges : (f : ℕ) → All InRange (frame_up f)
+unfolding frame_up
+up_ranges f = up_by f (nat_le f 2032) refl
+
+pub open_ranges : (f : ℕ) → All InRange (open_frame f)
+open_ranges f = both (frame_down f) (rv.Sw 2 1 (pos 0) ∷ []) (down_ranges f) (one (rv.Sw 2 1 (pos 0)) (omega arith, omega arith, small_signed 0 (omega arith)))
+
+pub epilogue_ranges : (f : ℕ) → All InRange (epilogue f)
+epilogue_ranges f = both (rv.Lw 1 2 (pos 0) ∷ frame_up f) (rv.Jalr 0 1 (pos 0) ∷ [])
+    (All-cons InRange (rv.Lw 1 2 (pos 0)) (frame_up f) (omega arith, omega arith, small_signed 0 (omega arith)) (up_ranges f))
+    (one (rv.Jalr 0 1 (pos 0)) (omega arith, omega arith, small_signed 0 (omega arith)))
+
+stub_ranges : (d : ℕ) → All InRange (stub d)
+stub_ranges d =
+    let tail = rv.Addi 17 0 (pos 3) ∷ rv.Ecall ∷ [] in
+    All-cons InRange (rv.Auipc 1 (hi d)) (rv.Jalr 1 1 (lo d) ∷ tail) (omega arith, hi_signed d)
+    (All-cons InRange (rv.Jalr 1 1 (lo d)) tail (omega arith, omega arith, lo_signed d)
+    (All-cons InRange (rv.Addi 17 0 (pos 3)) (rv.Ecall ∷ []) (omega arith, omega arith, small_signed 3 (omega arith)) (one rv.Ecall tt)))
+
+load_ranges : (r : ℕ) (v : Value) → r < 32 → All InRange (load r v)
+load_ranges r (Reg k) h = slot_ranges r (slot k) h
+load_ranges r (Word w) h = word_ranges r w h
+
+machine_range : (s : Sum) → InRange (machine_op s)
+machine_range Add = (omega arith, omega arith, omega arith)
+machine_range Sub = (omega arith, omega arith, omega arith)
+
+op_ranges : (n : ℕ) (op : Op) → All InRange (op_code n op)
+unfolding op_code
+op_ranges n op = both (load 5 op.left ++ load 6 op.right ++ machine_op op.sum ∷ []) (store_slot 5 (slot n)) (both (load 5 op.left ++ load 6 op.right) (machine_op op.sum ∷ []) (both (load 5 op.left) (load 6 op.right) (load_ranges 5 op.left (omega arith)) (load_ranges 6 op.right (omega arith))) (one (machine_op op.sum) (machine_range op.sum))) (store_ranges 5 (slot n) (omega arith))
+
+ops_ranges : (n : ℕ) (ops : List Op) → All InRange (ops_code n ops)
+unfolding ops_code
+ops_ranges n [] = none
+ops_ranges n (op ∷ ops) = both (op_code n op) (ops_code (n + 1) ops) (op_ranges n op) (ops_ranges (n + 1) ops)
+
+main_ranges : (b : Body) → All InRange (main_code b)
+unfolding main_code
+main_ranges b =
+    let f = frame_size (length b.ops) in
+    both (open_frame f ++ ops_code 0 b.ops ++ load 10 b.value) (epilogue f) (both (open_frame f ++ ops_code 0 b.ops) (load 10 b.value) (both (open_frame f) (ops_code 0 b.ops) (open_ranges f) (ops_ranges 0 b.ops)) (load_ranges 10 b.value (omega arith))) (epilogue_ranges f)
+
+pub program_ranges : (d : ℕ) (b : Body) → All InRange (stub d ++ main_code b)
+program_ranges d b = both (stub d) (main_code b) (stub_ranges d) (main_ranges b)

@@ -1,0 +1,69 @@
+-- What a build that is done leaves on a desk: an object that does what the module says, of the least size.
+use Rattle.std.specs.Prelude.{◌≡◌, ℕ, ◌≤◌, List, [], length, Some, All}
+use Rattle.std.specs.FinMap as finite
+use Rattle.oi_base.specs.declared.ids.SiteId.{SiteId}
+use Rattle.oi_world.specs.Desk.{Files}
+use Rattle.ir_core.specs.declared.module.Module.{Module}
+use Rattle.ir_core.specs.Source.{src}
+use Rattle.rv_isa.specs.Isa.{run}
+use Rattle.rv_isa.specs.Refines.{Refines}
+use Rattle.elf_object.specs.Image.{Parts, IsImage, HasWords}
+use Rattle.elf_object.specs.File.{elf}
+use Rattle.decisions.specs.declared.maps.Label.{Label}
+use Rattle.decisions.specs.Maps.{sites_of}
+use Rattle.decisions.specs.Text.{text_of}
+use Rattle.optinline.specs.declared.body.Body.{Body}
+use Rattle.optinline.specs.Reading.{Reads}
+use Rattle.optinline.specs.Words.{Words, command_of}
+use Rattle.optinline.specs.Lowering.{frame_size, size}
+use Rattle.optinline.specs.Meaning.{module_of}
+use Rattle.optinline.specs.Layout.{segments_of}
+use Rattle.optinline.specs.Answer.{certificate}
+
+-- ---- maps
+
+-- the candidate sites of a module: the accepted text has no calls, so there are none
+abbrev pub candidates : Body → List SiteId
+candidates main = []
+
+-- a label for each candidate site
+abbrev pub IsMapOver : Body → List (SiteId × Label) → Type 0
+IsMapOver main map = sites_of map ≡ candidates main
+
+-- the bytes of the text under a map: without candidates it is that of the one lowering
+abbrev pub size_under : Body → List (SiteId × Label) → ℕ
+size_under main map = size main
+
+-- no map gives less
+abbrev pub IsLeast : Body → List (SiteId × Label) → Type 0
+IsLeast main map = (other : List (SiteId × Label)) → IsMapOver main other → size_under main map ≤ size_under main other
+
+-- ---- objects
+
+-- An object does what a module says: its bytes are the ELF file of this image, and the run of what is loaded of it refines
+-- the run of the module, in both directions, on every input. No frame is larger than the largest.
+pub record DoesAs (m : Module) (largest : ℕ) (object : List ℕ) (image : Parts) : Type 0 where
+  pub file : object ≡ elf image
+  pub bounds : IsImage image
+  pub words : All HasWords image.symbols
+  pub refines : (input : List ℕ) → Refines largest (src m input) (run (segments_of image) input)
+
+-- The words are a build of a module in the accepted text. OBJECT does what the module says, and its text has the size of
+-- the map that DECISIONS holds; no map gives less; and CERT is the certificate that states it.
+pub record Delivers (words : List (List ℕ)) (before after : Files) : Type 0 where
+  pub build : Words
+  pub bytes : List ℕ
+  pub main : Body
+  pub object : List ℕ
+  pub image : Parts
+  pub map : List (SiteId × Label)
+  pub command : command_of words ≡ Some build
+  pub file : finite.get before build.«module» ≡ Some bytes
+  pub read : Reads bytes main
+  pub object_file : finite.get after build.object ≡ Some object
+  pub does : DoesAs (module_of read.parsed.names main) (frame_size (length main.ops)) object image
+  pub text : length image.text ≡ size_under main map
+  pub over : IsMapOver main map
+  pub decisions_file : finite.get after build.decisions ≡ Some (text_of map)
+  pub least : IsLeast main map
+  pub certificate_file : finite.get after build.cert ≡ Some (certificate main)

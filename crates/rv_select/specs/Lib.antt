@@ -1,0 +1,5 @@
+pub mod Parts
+pub mod Stands
+pub mod Sums
+pub mod Table
+pub mod Texts
