@@ -1,0 +1,10 @@
+pub mod Tables
+pub mod Joining
+pub mod Searching
+pub mod Paths
+pub mod Naming
+pub mod First
+pub mod Tested
+pub mod Using
+pub mod Breaking
+pub mod Told

@@ -1,0 +1,7 @@
+pub mod Assigned
+pub mod Graph
+pub mod Names
+pub mod Search
+pub mod Testing
+pub mod Uses
+pub mod Ways
