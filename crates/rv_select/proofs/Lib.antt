@@ -1,0 +1,17 @@
+pub mod BinRow
+pub mod Entry
+pub mod Halves
+pub mod Items
+pub mod Loads
+pub mod Moving
+pub mod Operands
+pub mod Prepended
+pub mod Results
+pub mod Return
+pub mod Rows
+pub mod Shape
+pub mod Slots
+pub mod Start
+pub mod Stores
+pub mod Turning
+pub mod Whole

@@ -1,0 +1,7 @@
+//! Instructions of flat bodies as instructions of the machine: the table, when a state of the machine stands for one of
+//! a run, and the law that an object so made does what its program does.
+#![tactic(auto)]
+
+mod laws;
+
+pub use laws::sums_are_refined;
