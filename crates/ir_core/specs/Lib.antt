@@ -23,4 +23,5 @@ pub mod ValidOps
 pub mod ValidPaths
 pub mod ValidTypes
 pub mod Weight
+pub mod WellFormed
 pub mod Words

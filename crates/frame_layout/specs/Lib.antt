@@ -1,0 +1,5 @@
+pub mod Parts
+pub mod Homes
+pub mod Offsets
+pub mod Frame
+pub mod Laws
