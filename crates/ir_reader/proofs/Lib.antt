@@ -13,3 +13,9 @@ pub mod LawsOfBodies
 pub mod LawsOfEntities
 pub mod Exact
 pub mod OneModule
+pub mod WordLists
+pub mod Stream
+pub mod Numbered
+pub mod Rounds
+pub mod Many
+pub mod TypesRead

@@ -12,3 +12,4 @@ pub mod Operations
 pub mod Bodies
 pub mod Entities
 pub mod Reading
+pub mod Gives

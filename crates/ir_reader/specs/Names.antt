@@ -1,8 +1,7 @@
 -- The names of a text in order of first appearance, and the numbers of what has no name.
-use Rattle.std.specs.Prelude.{ℕ, ◌+◌, ◌&&◌, nat_le, List, [], ◌∷◌, ◌++◌, length, position, Option, Some, None, if◌then◌else◌}
+use Rattle.std.specs.Prelude.{ℕ, ◌+◌, ◌-◌, ◌*◌, ◌&&◌, nat_le, List, [], ◌∷◌, ◌++◌, length, position, Option, Some, None, if◌then◌else◌}
 use Rattle.std.specs.Str.{bytes_eq}
 use Rattle.std.specs.Fmt.{decimal}
-use Rattle.std.specs.Str.Parse.{digits_value}
 use Rattle.ir_core.specs.declared.module.SymId.{SymId}
 use Rattle.ir_core.specs.declared.ty.TypeName.{TypeName}
 use Rattle.ir_core.specs.declared.op.LocalId.{LocalId}
@@ -42,9 +41,21 @@ local name s = (record { 0 = (numbered name s.locals).0 }, record s { locals = (
 abbrev pub greater : ℕ → ℕ → ℕ
 greater a b = if nat_le a b then b else a
 
+-- a decimal digit behind a number
+abbrev pub appended : ℕ → ℕ → ℕ
+appended n digit = n * 10 + (digit - 48)
+
+-- the number that decimal digits write behind a number
+abbrev pub written_behind : ℕ → List ℕ → ℕ
+written_behind n [] = n
+written_behind n (digit ∷ digits) = written_behind (appended n digit) digits
+
+abbrev pub written : List ℕ → ℕ
+written digits = written_behind 0 digits
+
 -- the number of what has no name, behind a definition of this name
 unfoldable pub next_behind : List ℕ → ℕ → ℕ
-next_behind name n = if are_digits name && nat_le (length name) 30 then greater n (digits_value 10 name + 1) else n
+next_behind name n = if are_digits name && nat_le (length name) 30 then greater n (written name + 1) else n
 
 -- a parameter, a register or a label is defined
 unfoldable pub define : List ℕ → Names → LocalId × Names

@@ -1,5 +1,5 @@
 -- Sets of tokens, as data: so that two sets are seen to be apart by computing.
-use Rattle.std.specs.Prelude.{ℕ, Bool, true, false, not, nat_eq, ◌&&◌, ◌||◌, ◌==◌, List, [], ◌∷◌}
+use Rattle.std.specs.Prelude.{ℕ, Bool, true, false, not, nat_eq, nat_lt, length, ◌&&◌, ◌||◌, ◌==◌, List, [], ◌∷◌}
 use Rattle.std.specs.List.{list_all}
 use Rattle.std.specs.Char.{is_ascii_digit}
 use Rattle.std.specs.Str.{bytes_eq}
@@ -11,8 +11,7 @@ use Rattle.ir_reader.specs.Pieces.{Piece, Is, Bad}
 
 -- one or more digits
 abbrev pub are_digits : List ℕ → Bool
-are_digits [] = false
-are_digits (b ∷ bs) = list_all is_ascii_digit (b ∷ bs)
+are_digits bs = nat_lt 0 (length bs) && list_all is_ascii_digit bs
 
 -- `i` with digits, the name of an integer type
 abbrev pub is_integer_type : List ℕ → Bool

@@ -35,7 +35,7 @@ abbrev pub left_out_entities : List (List ℕ)
 left_out_entities = codes "alias" ∷ codes "ifunc" ∷ codes "comdat" ∷ codes "section" ∷ codes "personality" ∷ codes "gc" ∷ codes "prologue" ∷ codes "prefix" ∷ codes "partition" ∷ codes "module" ∷ codes "uselistorder" ∷ codes "uselistorder_bb" ∷ codes "blockaddress" ∷ codes "inrange" ∷ []
 
 abbrev pub left_out_words : List (List ℕ)
-left_out_words = left_out_types ++ left_out_operations ++ left_out_control ++ left_out_shared ++ left_out_passing ++ left_out_linkage ++ left_out_entities
+left_out_words = left_out_types ++ (left_out_operations ++ (left_out_control ++ (left_out_shared ++ (left_out_passing ++ (left_out_linkage ++ left_out_entities)))))
 
 -- the types of the profile
 abbrev pub type_words : List (List ℕ)
@@ -68,4 +68,4 @@ barred_words barred.Code = code_words
 
 -- the words that are no attributes in a list
 abbrev pub no_attributes : Barred → List (List ℕ)
-no_attributes b = barred_words b ++ never ++ left_out_words
+no_attributes b = barred_words b ++ (never ++ left_out_words)
