@@ -18,7 +18,7 @@ use Rattle.ir_reader.specs.Sets.{Set, has}
 use Rattle.ir_reader.specs.Forms.{Form, token, Verdict, Takes, Refuses, Over}
 use Rattle.ir_reader.specs.Tokens.{Limits, sign, word, kind, words_of, one_word}
 use Rattle.ir_reader.specs.Types.{type_set}
-use Rattle.ir_reader.specs.Values.{const_words, gep_word, gep_flag, gep_flags, global, index, gep_rest, gep, address, integer, const_set, const_at, const, local_value, value_set, value, typed, zero_init, bytes, last_const_of, typed_init, array_init, struct_init, init_at, init}
+use Rattle.ir_reader.specs.Values.{const_words, gep_word, gep_flag, gep_flags, global, index, gep_rest, gep, address, integer, const_set, const_at, constant, local_value, value_set, value, typed, zero_init, bytes, last_const_of, typed_init, array_init, struct_init, init_at, init}
 use Rattle.ir_reader.proofs.FormLaws.{Law}
 use Rattle.ir_reader.proofs.Rules.{begins_with, maybe, seq, or, done, does, expects, takes, looked, law_one_word, shaped, collect}
 use Rattle.ir_reader.proofs.LawsOfTokens.{is_sign, is_word, law_text, law_int, law_skip, law_behind_comma, law_listed}
@@ -58,8 +58,8 @@ pub law_const_at : {w : Bool} (most : Option ℕ) (n : ℕ) → Law w (const_at 
 unfolding const_at
 law_const_at most n = shaped (or law_address (or (law_gep most n) (or law_integer law_const_word refl refl) refl refl) refl refl) const_set [] refl refl
 
-pub law_const : {w : Bool} (l : Limits) → Law w (const l) (begins_with const_set)
-unfolding const
+pub law_const : {w : Bool} (l : Limits) → Law w (constant l) (begins_with const_set)
+unfolding constant
 law_const l = law_const_at l.length l.levels
 
 pub law_local_value : {w : Bool} → Law w local_value (begins_with (kind kinds.Local))

@@ -2,7 +2,7 @@
 use Rattle.std.proofs.Common.{◌≡◌, ℕ, ◌≤◌, ◌<◌, zero, suc, Bool, true, false, List, [], ◌∷◌, length, Ok, Err, refl, ap, ◌∙◌, subst, arith}
 use Rattle.std.specs.Prelude.{if◌then◌else◌}
 use Rattle.std.proofs.lemmas.List.{length-append}
-use Rattle.ir_reader.specs.Pieces.{Piece, Is, Bad}
+use Rattle.ir_reader.specs.Pieces.{Piece}
 use Rattle.ir_reader.specs.Sets.{Set, head_in}
 use Rattle.ir_reader.specs.Forms.{Left, Fault, Outcome, Form, and_then, rounds, rounds_at}
 use Rattle.ir_reader.proofs.FormLaws.{Shape, Heads, Law, Traced}

@@ -1,15 +1,15 @@
 -- The pieces of a text are what the lexer gives, one after another.
-use Rattle.std.proofs.Common.{◌≡◌, ℕ, zero, suc, ◌+◌, ◌<◌, ◌≤◌, Bool, true, false, List, [], ◌∷◌, ◌++◌, length, Result, Ok, Err, refl, sym, ap, ◌∙◌, subst, arith}
+use Rattle.std.proofs.Common.{◌≡◌, ℕ, zero, suc, ◌+◌, ◌<◌, Bool, true, false, List, [], ◌∷◌, ◌++◌, length, Result, Ok, Err, refl, ap, ◌∙◌, arith}
 use Rattle.std.specs.Prelude.{if◌then◌else◌}
 use Rattle.std.proofs.lemmas.List.{length-append}
 use Rattle.oi_base.specs.declared.ids.Place.{Place}
 use Rattle.ir_lexer.specs.declared.fault.LexFault.{LexFault}
 use Rattle.ir_lexer.specs.declared.table.Token.{Token}
 use Rattle.ir_lexer.specs.declared.table.Token.TheVariants as tokens
-use Rattle.ir_lexer.specs.Spellings.{Spells, Names, IsRun, Quotes}
+use Rattle.ir_lexer.specs.Spellings.{Spells}
 use Rattle.ir_lexer.specs.Lexing.{Unread, next_token, is_end}
 use Rattle.ir_lexer.proofs.Behind.{in_parts}
-use Rattle.ir_reader.specs.Pieces.{Piece, Is, Bad, then_more, pieces_at, pieces_of}
+use Rattle.ir_reader.specs.Pieces.{Piece, Is, then_more, pieces_at, pieces_of}
 
 not_empty : (bs : List ℕ) (b : ℕ) (rest : List ℕ) → bs ≡ b ∷ rest → 0 < length bs
 not_empty bs b rest e = omega (arith, ap length e)

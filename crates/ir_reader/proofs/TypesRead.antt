@@ -1,10 +1,9 @@
 -- How a type is read, by the levels left.
-use Rattle.std.proofs.Common.{◌≡◌, ℕ, ◌-◌, ◌<◌, zero, suc, Bool, true, false, refl, ap, ◌∙◌, arith}
-use Rattle.std.specs.Prelude.{if◌then◌else◌, Option}
-use Rattle.ir_core.specs.declared.ty.IrType.{IrType}
+use Rattle.std.proofs.Common.{◌≡◌, ℕ, ◌-◌, ◌<◌, zero, suc, Bool, true, false, refl, arith}
+use Rattle.std.specs.Prelude.{Option}
 use Rattle.ir_reader.specs.declared.kinds.Kind.TheVariants as kinds
 use Rattle.ir_reader.specs.Sets.{head_in}
-use Rattle.ir_reader.specs.Forms.{Left, Form, token}
+use Rattle.ir_reader.specs.Forms.{Left, token}
 use Rattle.ir_reader.specs.Tokens.{sign, kind, words_of, one_word}
 use Rattle.ir_reader.specs.Types.{scalars, named, last_of, type_in, array, struct}
 

@@ -1,9 +1,7 @@
 -- A word among the words of several lists.
-use Rattle.std.proofs.Common.{◌≡◌, ℕ, Bool, true, false, ◌||◌, List, [], ◌∷◌, ◌++◌, refl, sym, ap, ◌∙◌}
+use Rattle.std.proofs.Common.{◌≡◌, ℕ, Bool, true, false, ◌||◌, List, [], ◌∷◌, ◌++◌, refl, sym, ◌∙◌}
 use Rattle.std.specs.Str.{bytes_eq}
-use Rattle.ir_reader.specs.declared.kinds.Barred.{Barred}
 use Rattle.ir_reader.specs.Sets.{among}
-use Rattle.ir_reader.specs.Words.{left_out_types, left_out_operations, left_out_control, left_out_shared, left_out_passing, left_out_linkage, left_out_entities, left_out_words, never, barred_words, no_attributes}
 
 among_append : (vs ws : List (List ℕ)) (w : List ℕ) → among (vs ++ ws) w ≡ (among vs w || among ws w)
 among_append [] ws w = refl

@@ -3,7 +3,6 @@ use Rattle.std.specs.Prelude.{◌≡◌, ℕ, Bool, true, false, List, [], ◌�
 use Rattle.oi_base.specs.declared.ids.Place.{Place}
 use Rattle.ir_lexer.specs.declared.table.Token.{Token}
 use Rattle.ir_lexer.specs.declared.table.Token.TheVariants as tokens
-use Rattle.ir_lexer.specs.declared.table.Spot.{Spot}
 use Rattle.ir_lexer.specs.Lexing.{is_end}
 use Rattle.ir_reader.specs.declared.ahead.Ahead.{Ahead}
 use Rattle.ir_reader.specs.declared.ahead.Ahead.TheVariants as aheads

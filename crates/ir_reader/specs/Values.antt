@@ -66,8 +66,8 @@ const_set = kind kinds.Global ++ gep_word ++ kind kinds.Int ++ words_of const_wo
 unfoldable pub const_at : Option ℕ → ℕ → Form Const
 const_at most n = either (kind kinds.Global) address (either gep_word (gep most n) (either (kind kinds.Int) integer (one_word const_words)))
 
-unfoldable pub const : Limits → Form Const
-const l = const_at l.length l.levels
+unfoldable pub constant : Limits → Form Const
+constant l = const_at l.length l.levels
 
 unfoldable pub local_value : Form Operand
 local_value = text kinds.Local >>= λ n. act (λ s. (operands.Local (local n s).0, (local n s).1))
@@ -76,7 +76,7 @@ abbrev pub value_set : Set
 value_set = kind kinds.Local ++ const_set
 
 unfoldable pub value : Limits → Form Operand
-value l = either (kind kinds.Local) local_value (const l >>= λ c. ret (operands.Const c))
+value l = either (kind kinds.Local) local_value (constant l >>= λ c. ret (operands.Const c))
 
 -- type value
 unfoldable pub typed : Limits → Form TypedOperand

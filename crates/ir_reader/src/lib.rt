@@ -12,6 +12,7 @@ mod reader;
 mod table;
 mod token_kinds;
 mod typing;
+mod valuing;
 mod words;
 
 pub use fault::{ReadFault, Which};
