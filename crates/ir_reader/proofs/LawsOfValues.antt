@@ -111,7 +111,7 @@ law_bytes = seq (law_text kinds.CStr (tokens.CStr []) refl) (λ (b : List ℕ). 
 abbrev pub init_set : Set
 init_set = kind kinds.Global ++ gep_word ++ kind kinds.Int ++ word (codes "zeroinitializer") ++ kind kinds.CStr ++ sign 91 ++ sign 123 ++ words_of const_words
 
-law_typed_init : {w : Bool} (f : Form Const) (most : Option ℕ) (n : ℕ) → Law w f (begins_with init_set) → Law w (typed_init f most n) (begins_with (type_set true))
+pub law_typed_init : {w : Bool} (f : Form Const) (most : Option ℕ) (n : ℕ) → Law w f (begins_with init_set) → Law w (typed_init f most n) (begins_with (type_set true))
 law_typed_init f most n h = seq (law_type true most n) (λ (t : IrType). seq h (λ (c : Const). done (record { ty = t; value = c })) refl) refl
 
 law_array_init : {w : Bool} (f : Form TypedConst) → Law w f (begins_with (type_set true)) → Law w (array_init f) (begins_with (sign 91))

@@ -19,3 +19,4 @@ pub mod Numbered
 pub mod Rounds
 pub mod Many
 pub mod TypesRead
+pub mod InitsRead

@@ -244,4 +244,109 @@ impl<'a> Reader<'a> {
         let said = self.text(Kind::CStr)?;
         Ok(Const::Bytes(said))
     }
+
+    /// type init
+    #[cycle(inits)]
+    fn typed_init(&mut self, levels: u32) -> Result<TypedConst, ReadFault>
+        ensures { Gives result self.new ((typed_init (init_at (Some 4294967295) levels) (Some 4294967295) levels).parse self.old) }
+    {
+        let ty = self.ty(true, levels)?;
+        let value = self.init_at(levels)?;
+        Ok(TypedConst { ty, value })
+    }
+
+    /// `,` type init
+    #[cycle(inits)]
+    fn next_init(&mut self, levels: u32) -> Result<TypedConst, ReadFault>
+        ensures { Gives result self.new ((behind_comma (typed_init (init_at (Some 4294967295) levels) (Some 4294967295) levels)).parse self.old) }
+    {
+        self.sign(b',')?;
+        self.typed_init(levels)
+    }
+
+    /// { `,` type init }
+    #[cycle(inits)]
+    fn more_inits(&mut self, inits: TypedConsts, levels: u32) -> Result<TypedConsts, ReadFault>
+        ensures { Gives result self.new ((many (sign_set 44) (behind_comma (typed_init (init_at (Some 4294967295) levels) (Some 4294967295) levels)) inits).parse self.old) }
+    {
+        let mut inits = inits;
+        while self.is_sign(b',') {
+            let next = self.next_init(levels)?;
+            inits.push(next)?;
+        }
+        Ok(inits)
+    }
+
+    /// [ type init { `,` type init } ]
+    #[cycle(inits)]
+    fn inits(&mut self, levels: u32) -> Result<TypedConsts, ReadFault>
+        ensures { Gives result self.new ((listed (type_set true) (typed_init (init_at (Some 4294967295) levels) (Some 4294967295) levels)).parse self.old) }
+    {
+        let mut inits = Items::new(self.alloc);
+        if !self.is_type() {
+            return Ok(inits);
+        }
+        let first = self.typed_init(levels)?;
+        inits.push(first)?;
+        self.more_inits(inits, levels)
+    }
+
+    #[cycle(inits)]
+    fn array_init(&mut self, levels: u32) -> Result<Const, ReadFault>
+        ensures { Gives result self.new ((array_init (typed_init (init_at (Some 4294967295) levels) (Some 4294967295) levels)).parse self.old) }
+    {
+        self.sign(b'[')?;
+        let items = self.inits(levels)?;
+        self.sign(b']')?;
+        Ok(Const::Array(items))
+    }
+
+    #[cycle(inits)]
+    fn struct_init(&mut self, levels: u32) -> Result<Const, ReadFault>
+        ensures { Gives result self.new ((struct_init (typed_init (init_at (Some 4294967295) levels) (Some 4294967295) levels)).parse self.old) }
+    {
+        self.sign(b'{')?;
+        let items = self.inits(levels)?;
+        self.sign(b'}')?;
+        Ok(Const::Struct(items))
+    }
+
+    /// An initialiser with at most so many levels.
+    #[cycle(inits)]
+    fn init_at(&mut self, levels: u32) -> Result<Const, ReadFault>
+        ensures { Gives result self.new ((init_at (Some 4294967295) levels).parse self.old) }
+    {
+        if self.is_kind(Kind::Global) {
+            return self.address();
+        }
+        if self.is_gep() {
+            return self.gep_const(levels);
+        }
+        if self.is_kind(Kind::Int) {
+            return self.integer();
+        }
+        if self.is_word(b"zeroinitializer") {
+            return self.zero();
+        }
+        if self.is_kind(Kind::CStr) {
+            return self.bytes();
+        }
+        if levels == 0 {
+            return self.last_const();
+        }
+        if self.is_sign(b'[') {
+            return self.array_init(levels - 1);
+        }
+        if self.is_sign(b'{') {
+            return self.struct_init(levels - 1);
+        }
+        self.const_of_word()
+    }
+
+    #[tactic(auto, unfolding(crate::specs::Values::init))]
+    pub fn init(&mut self) -> Result<Const, ReadFault>
+        ensures { Gives result self.new ((init stated).parse self.old) }
+    {
+        self.init_at(MOST_LEVELS)
+    }
 }
