@@ -1,4 +1,5 @@
 pub mod BinRow
+pub mod Carried
 pub mod Entry
 pub mod Halves
 pub mod Items

@@ -1,3 +1,4 @@
+pub mod Carried
 pub mod Parts
 pub mod Stands
 pub mod Sums

@@ -4,4 +4,4 @@
 
 mod laws;
 
-pub use laws::sums_are_refined;
+pub use laws::{sums_are_carried_out, sums_are_refined};
