@@ -1,6 +1,6 @@
 use ir_core::{
     Block, Blocks, Declaration, Declared, End, Func, GlobalVar, Globals, Instrs, LocalId, Texts,
-    TypeDef, TypeDefs,
+    TypeDef,
 };
 use oi_base::{Items, Place, Text};
 
@@ -72,7 +72,7 @@ pub struct Draft {
     pub triple: Option<Text>,
     /// The groups of attributes that have the word `noinline`.
     pub noinline: Texts,
-    pub types: TypeDefs,
+    pub types: Items<TypeDef>,
     pub globals: Globals,
     pub definitions: Definitions,
     pub declared: Declared,
