@@ -1,0 +1,5 @@
+//! The verifier: which rule of the accepted IR a module breaks first, and where (docs/RULES.md).
+#![tactic(auto)]
+
+mod entry;
+mod first;
