@@ -1,3 +1,6 @@
 pub mod Earliest
 pub mod Faulty
+pub mod Tests
+pub mod At
 mod EntryLaws
+mod ConstantLaws

@@ -1,11 +1,26 @@
 -- For each rule of functions, the places at which it is broken, as lists in text order.
-use Rattle.std.specs.Prelude.{ℕ, ◌==◌, Bool, if◌then◌else◌, List, [], ◌∷◌, Option, Some, None, slice_get}
-use Rattle.std.specs.List.{flat_map, list_any}
+use Rattle.std.specs.Prelude.{ℕ, ◌/◌, ◌==◌, nat_lt, ℤ, pos, negsuc, Bool, true, false, not, ◌&&◌, if◌then◌else◌, List, [], ◌∷◌, ◌++◌, Option, Some, None, slice_get}
+use Rattle.std.specs.List.{flat_map, list_any, list_all}
 use Rattle.oi_base.specs.declared.ids.Place.{Place}
+use Rattle.oi_base.specs.declared.words.Width.{Width}
+use Rattle.oi_base.specs.declared.words.Width.TheVariants.{W1}
+use Rattle.oi_base.specs.Words.{modulus}
+use Rattle.ir_core.specs.declared.ty.IrType.{IrType, Int, Ptr}
+use Rattle.ir_core.specs.declared.constant.Const.{Const}
+use Rattle.ir_core.specs.declared.constant.Const as consts
+use Rattle.ir_core.specs.declared.constant.TypedCount.{TypedCount}
 use Rattle.ir_core.specs.declared.op.LocalId.{LocalId}
+use Rattle.ir_core.specs.declared.op.Operand.{Operand}
+use Rattle.ir_core.specs.declared.op.Operand.TheVariants as operands
+use Rattle.ir_core.specs.declared.op.TypedOperand.{TypedOperand}
+use Rattle.ir_core.specs.declared.op.Op.{Op}
+use Rattle.ir_core.specs.declared.op.Op.TheVariants.{Alloca}
+use Rattle.ir_core.specs.declared.op.End.{End}
+use Rattle.ir_core.specs.declared.func.Instr.{Instr}
 use Rattle.ir_core.specs.declared.func.Block.{Block}
 use Rattle.ir_core.specs.declared.func.Func.{Func}
 use Rattle.ir_core.specs.Parts.{targets}
+use Rattle.ir_core.specs.Stands.{Step, Does, Ends, op_operands, end_operands}
 
 -- a place where something is so
 abbrev pub place_if : Bool → Place → List Place
@@ -28,3 +43,65 @@ entry_faults f = of_entry (slice_get f.blocks 0)
     of_entry : Option Block → List Place
     of_entry None = []
     of_entry (Some b) = flat_map (entry_fault b.label) f.blocks
+
+-- ---- instructions and terminators
+
+-- where a test finds instructions and the terminator of a block
+abbrev pub block_faults : (Step → Bool) → Block → List Place
+block_faults bad b = flat_map (λ (i : Instr). place_if (bad (Does i)) i.place) b.code ++ place_if (bad (Ends b)) b.end_place
+
+abbrev pub step_faults : (Step → Bool) → Func → List Place
+step_faults bad f = flat_map (block_faults bad) f.blocks
+
+-- ---- constants
+
+-- an integer of a width w lies in -2^(w-1) to 2^w - 1
+abbrev pub fits : Width → ℤ → Bool
+fits w (pos a) = nat_lt a (modulus w)
+fits w (negsuc a) = nat_lt a (modulus w / 2)
+
+abbrev pub fits_type : IrType → ℤ → Bool
+fits_type (Int w) n = fits w n
+fits_type _ n = false
+
+abbrev pub is_bit : IrType → Bool
+is_bit (Int W1) = true
+is_bit _ = false
+
+abbrev pub is_pointer : IrType → Bool
+is_pointer Ptr = true
+is_pointer _ = false
+
+abbrev pub count_fits : TypedCount → Bool
+count_fits n = fits_type n.ty n.count
+
+abbrev pub const_fits : IrType → Const → Bool
+const_fits t (consts.Int n) = fits_type t n
+const_fits t (consts.Bool b) = is_bit t
+const_fits t consts.Null = is_pointer t
+const_fits t (consts.Gep source s is) = list_all count_fits is
+const_fits t _ = true
+
+abbrev pub value_fits : IrType → Operand → Bool
+value_fits t (operands.Local x) = true
+value_fits t (operands.Const c) = const_fits t c
+
+abbrev pub operand_fits : TypedOperand → Bool
+operand_fits a = value_fits a.ty a.value
+
+abbrev pub op_count_fits : Op → Bool
+op_count_fits (Alloca t (Some n) align) = count_fits n
+op_count_fits _ = true
+
+abbrev pub op_fits : Op → Bool
+op_fits op = list_all operand_fits (op_operands op) && op_count_fits op
+
+abbrev pub end_fits : End → Bool
+end_fits e = list_all operand_fits (end_operands e)
+
+abbrev pub step_fits : Step → Bool
+step_fits (Does i) = op_fits i.op
+step_fits (Ends b) = end_fits b.end
+
+abbrev pub constant_faults : Func → List Place
+constant_faults f = step_faults (λ (s : Step). not (step_fits s)) f
