@@ -4,3 +4,6 @@ pub mod Tests
 pub mod At
 mod EntryLaws
 mod ConstantLaws
+mod CaseWords
+mod CaseLaws
+mod PositionLaws

@@ -1,10 +1,10 @@
 -- For each rule of functions, the places at which it is broken, as lists in text order.
-use Rattle.std.specs.Prelude.{ℕ, ◌/◌, ◌==◌, nat_lt, ℤ, pos, negsuc, Bool, true, false, not, ◌&&◌, if◌then◌else◌, List, [], ◌∷◌, ◌++◌, Option, Some, None, slice_get}
+use Rattle.std.specs.Prelude.{ℕ, ◌/◌, ◌==◌, nat_eq, nat_lt, ℤ, pos, negsuc, Bool, true, false, not, ◌&&◌, ◌||◌, if◌then◌else◌, List, [], ◌∷◌, ◌++◌, Option, Some, None, slice_get}
 use Rattle.std.specs.List.{flat_map, list_any, list_all}
 use Rattle.oi_base.specs.declared.ids.Place.{Place}
 use Rattle.oi_base.specs.declared.words.Width.{Width}
 use Rattle.oi_base.specs.declared.words.Width.TheVariants.{W1}
-use Rattle.oi_base.specs.Words.{modulus}
+use Rattle.oi_base.specs.Words.{modulus, word_of}
 use Rattle.ir_core.specs.declared.ty.IrType.{IrType, Int, Ptr}
 use Rattle.ir_core.specs.declared.constant.Const.{Const}
 use Rattle.ir_core.specs.declared.constant.Const as consts
@@ -14,7 +14,10 @@ use Rattle.ir_core.specs.declared.op.Operand.{Operand}
 use Rattle.ir_core.specs.declared.op.Operand.TheVariants as operands
 use Rattle.ir_core.specs.declared.op.TypedOperand.{TypedOperand}
 use Rattle.ir_core.specs.declared.op.Op.{Op}
-use Rattle.ir_core.specs.declared.op.Op.TheVariants.{Alloca}
+use Rattle.ir_core.specs.declared.op.Op.TheVariants.{Alloca, Phi}
+use Rattle.ir_core.specs.declared.op.SwitchCase.{SwitchCase}
+use Rattle.ir_core.specs.declared.op.End.TheVariants.{Switch}
+use Rattle.ir_core.specs.Words.{bit}
 use Rattle.ir_core.specs.declared.op.End.{End}
 use Rattle.ir_core.specs.declared.func.Instr.{Instr}
 use Rattle.ir_core.specs.declared.func.Block.{Block}
@@ -105,3 +108,85 @@ step_fits (Ends b) = end_fits b.end
 
 abbrev pub constant_faults : Func → List Place
 constant_faults f = step_faults (λ (s : Step). not (step_fits s)) f
+
+-- ---- switches
+
+-- a set of numbers, in the order in which they were added, with one more
+abbrev pub with_number : List ℕ → ℕ → List ℕ
+with_number ns n = if list_any (nat_eq n) ns then ns else ns ++ n ∷ []
+
+-- the word that a constant is
+abbrev pub number_word : IrType → ℤ → Option ℕ
+number_word (Int w) n = Some (word_of (modulus w) n)
+number_word _ n = None
+
+abbrev pub zero_word : IrType → Option ℕ
+zero_word (Int w) = Some 0
+zero_word _ = None
+
+abbrev pub const_word : IrType → Const → Option ℕ
+const_word t (consts.Int n) = number_word t n
+const_word t (consts.Bool b) = Some (bit b)
+const_word t consts.Undef = zero_word t
+const_word t _ = None
+
+abbrev pub word_value : IrType → Operand → Option ℕ
+word_value t (operands.Local x) = None
+word_value t (operands.Const c) = const_word t c
+
+abbrev pub is_new_word : List ℕ → Option ℕ → Bool
+is_new_word words None = false
+is_new_word words (Some a) = not (list_any (nat_eq a) words)
+
+abbrev pub with_word : List ℕ → Option ℕ → List ℕ
+with_word words None = words
+with_word words (Some a) = with_number words a
+
+-- the case is a word that is none of these, and they with it
+abbrev pub is_new_case : List ℕ → SwitchCase → Bool
+is_new_case words c = is_new_word words (word_value c.value.ty c.value.value)
+
+abbrev pub with_case : List ℕ → SwitchCase → List ℕ
+with_case words c = with_word words (word_value c.value.ty c.value.value)
+
+abbrev pub are_good_cases : List ℕ → List SwitchCase → Bool
+are_good_cases words [] = true
+are_good_cases words (c ∷ cs) = is_new_case words c && are_good_cases (with_case words c) cs
+
+abbrev pub has_good_cases : End → Bool
+has_good_cases (Switch a other cases) = are_good_cases [] cases
+has_good_cases _ = true
+
+abbrev pub case_fault : Block → List Place
+case_fault b = place_if (not (has_good_cases b.end)) b.end_place
+
+abbrev pub case_faults : Func → List Place
+case_faults f = flat_map case_fault f.blocks
+
+-- ---- positions
+
+abbrev pub is_phi : Op → Bool
+is_phi (Phi t es) = true
+is_phi _ = false
+
+abbrev pub is_alloca : Op → Bool
+is_alloca (Alloca t count align) = true
+is_alloca _ = false
+
+-- an instruction in the entry block or in another, behind something that is no phi or not
+abbrev pub is_misplaced : (entry late : Bool) → Op → Bool
+is_misplaced entry late op = is_phi op && late || is_alloca op && not entry
+
+abbrev pub code_faults : (entry late : Bool) → List Instr → List Place
+code_faults entry late [] = []
+code_faults entry late (i ∷ is) = place_if (is_misplaced entry late i.op) i.place ++ code_faults entry (late || not (is_phi i.op)) is
+
+abbrev pub position_fault : (entry : Bool) → Block → List Place
+position_fault entry b = code_faults entry false b.code
+
+abbrev pub position_faults_from : (entry : Bool) → List Block → List Place
+position_faults_from entry [] = []
+position_faults_from entry (b ∷ bs) = position_fault entry b ++ position_faults_from false bs
+
+abbrev pub position_faults : Func → List Place
+position_faults f = position_faults_from true f.blocks

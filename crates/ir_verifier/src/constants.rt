@@ -179,7 +179,7 @@ fn fits(w: Width, number: i128) -> bool
 }
 
 /// How many words a width has.
-fn words(w: Width) -> i128
+pub fn words(w: Width) -> i128
     ensures { result ≡ pos (modulus w) }
 {
     match w {

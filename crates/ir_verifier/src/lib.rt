@@ -1,6 +1,9 @@
 //! The verifier: which rule of the accepted IR a module breaks first, and where (docs/RULES.md).
 #![tactic(auto)]
 
+mod cases;
 mod constants;
 mod entry;
 mod first;
+mod numbers;
+mod positions;
