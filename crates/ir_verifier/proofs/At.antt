@@ -14,18 +14,22 @@ use Rattle.ir_verifier.specs.Faults.{place_if, block_faults}
 use Rattle.ir_verifier.proofs.Earliest.{found}
 use Rattle.ir_verifier.proofs.Faulty.{has, places, has_fault, fault_has}
 
-module _ {A : Type 0} (bad : A → Bool) (place : A → Place) (Is : A → Type 0) (sound : (x : A) → bad x ≡ true → Is x) (complete : (x : A) → Is x → bad x ≡ true) where
-  abbrev pub At : List A → Place → Type 0
-  At xs p = (x : A) × Contains xs x × (place x ≡ p) × Is x
+module _ {A : Type 0} (bad : A → Bool) (place : A → Place) (Is : A → Type 0) (xs : List A) (sound : (x : A) → Has xs x → bad x ≡ true → Is x) (complete : (x : A) → Has xs x → Is x → bad x ≡ true) where
+  abbrev pub At : Place → Type 0
+  At p = (x : A) × Contains xs x × (place x ≡ p) × Is x
 
-  pub found_at : (xs : List A) → IsFound (At xs) (earliest None (places bad place xs))
-  found_at xs = found (At xs) (places bad place xs) of_fault to_fault
+  pub found_in : IsFound At (earliest None (places bad place xs))
+  found_in = found At (places bad place xs) of_fault to_fault
     where
-      of_fault : (p : Place) → Has (places bad place xs) p → At xs p
-      of_fault p h = let r = fault_has bad place xs p h in (r.0, contains xs r.0 r.1, r.2, sound r.0 r.3)
+      of_fault : (p : Place) → Has (places bad place xs) p → At p
+      of_fault p h = let r = fault_has bad place xs p h in (r.0, contains xs r.0 r.1, r.2, sound r.0 r.1 r.3)
 
-      to_fault : (p : Place) → At xs p → Has (places bad place xs) p
-      to_fault p a = subst (Has (places bad place xs)) a.2 (has_fault bad place xs a.0 (has xs a.0 a.1) (complete a.0 a.3))
+      to_fault : (p : Place) → At p → Has (places bad place xs) p
+      to_fault p a = subst (Has (places bad place xs)) a.2 (has_fault bad place xs a.0 (has xs a.0 a.1) (complete a.0 (has xs a.0 a.1) a.3))
+
+-- where the test tells of anything whether it is so
+pub found_at : {A : Type 0} (bad : A → Bool) (place : A → Place) (Is : A → Type 0) (sound : (x : A) → bad x ≡ true → Is x) (complete : (x : A) → Is x → bad x ≡ true) (xs : List A) → IsFound (λ (p : Place). (x : A) × Contains xs x × (place x ≡ p) × Is x) (earliest None (places bad place xs))
+found_at bad place Is sound complete xs = found_in bad place Is xs (λ x h. sound x) (λ x h. complete x)
 
 -- the places of the steps of blocks, block by block
 pub step_places : (bad : Step → Bool) (blocks : List Block) → flat_map (block_faults bad) blocks ≡ places bad place_of (flat_map block_steps blocks)

@@ -9,10 +9,6 @@ use Rattle.ir_core.specs.FirstBroken.{IsFirstPlace}
 use Rattle.ir_core.proofs.Lists.{Has, contains}
 use Rattle.ir_verifier.specs.First.{earlier, earliest, IsFound}
 
-pub earliest_append : (first : Option Place) (ps qs : List Place) → earliest first (ps ++ qs) ≡ earliest (earliest first ps) qs
-earliest_append first [] qs = refl
-earliest_append first (p ∷ ps) qs = earliest_append (earlier first p) ps qs
-
 -- ---- the order of places
 
 up_to_itself : (p : Place) → is_up_to p p ≡ true
@@ -73,18 +69,3 @@ found Breaks (q ∷ ps) sound all = let l = least q ps in subst (IsFound Breaks)
         of_each : (p : Place) → Has (q ∷ ps) p → IsTrue (is_up_to r p)
         of_each p (inl e) = subst (λ x. IsTrue (is_up_to r x)) e l.up_to_it
         of_each p (inr h) = l.up_to_each p h
-
--- one more element of a list, whose places are counted in
-pub earliest_step : {A : Type 0} (g : A → List Place) (first next all : Option Place) (xs ys : List A) (k : ℕ) (x : A) →
-    next ≡ earliest first (g x) → xs ≡ ys → k < length xs → x ≡ slice_index_or xs k x → earliest first (flat_map g (drop k ys)) ≡ all → earliest next (flat_map g (drop (k + 1) ys)) ≡ all
-earliest_step g first next all xs ys k x e same within is so_far =
-    ap (λ (o : Option Place). earliest o (flat_map g (drop (k + 1) ys))) e
-    ∙ sym (earliest_append first (g x) (flat_map g (drop (k + 1) ys)))
-    ∙ ap (λ (zs : List _). earliest first (flat_map g zs)) (sym cut)
-    ∙ so_far
-  where
-    next_one : suc k ≡ k + 1
-    next_one = omega arith
-
-    cut : drop k ys ≡ x ∷ drop (k + 1) ys
-    cut = subst (λ zs. drop k zs ≡ x ∷ drop (k + 1) zs) same (drop-cons xs k x within ∙ ap (λ z. z ∷ drop (suc k) xs) (sym is) ∙ ap (λ (n : ℕ). x ∷ drop n xs) next_one)

@@ -1,3 +1,4 @@
+pub mod Folds
 pub mod Earliest
 pub mod Faulty
 pub mod Tests
@@ -7,3 +8,6 @@ mod ConstantLaws
 mod CaseWords
 mod CaseLaws
 mod PositionLaws
+mod ReferenceLaws
+mod PlainOperands
+mod ReferencesFound

@@ -9,11 +9,12 @@ use Rattle.ir_core.specs.declared.func.Block.{Block}
 use Rattle.ir_core.specs.declared.func.Func.{Func}
 use Rattle.ir_core.specs.ValidFunc.{IsPhi, IsAlloca, IsLatePhi, BreaksPositions}
 use Rattle.ir_core.proofs.Lists.{Has, has_left, has_right}
-use Rattle.ir_verifier.specs.First.{earliest, IsFound}
+use Rattle.ir_verifier.specs.First.{earlier, earliest, IsFound}
 use Rattle.ir_verifier.specs.Faults.{place_if, is_phi, is_alloca, is_misplaced, code_faults, position_fault, position_faults_from, position_faults}
 use Rattle.ir_verifier.proofs.Tests.{Decides, always, never, both, negated}
 use Rattle.ir_verifier.proofs.Faulty.{has_in}
-use Rattle.ir_verifier.proofs.Earliest.{found, earliest_append}
+use Rattle.ir_verifier.proofs.Earliest.{found}
+use Rattle.ir_verifier.proofs.Folds.{fold_next, cut}
 
 phi_decides : (op : Op) → Decides (is_phi op) (IsPhi op)
 phi_decides (Phi t es) = always
@@ -231,13 +232,5 @@ pub positions_step : (first next all : Option Place) (entry : Bool) (xs ys : Lis
     next ≡ earliest first (position_fault entry b) → xs ≡ ys → k < length xs → b ≡ slice_index_or xs k b
     → earliest first (position_faults_from entry (drop k ys)) ≡ all → earliest next (position_faults_from false (drop (k + 1) ys)) ≡ all
 positions_step first next all entry xs ys k b e same within is so_far =
-    ap (λ (o : Option Place). earliest o (position_faults_from false (drop (k + 1) ys))) e
-    ∙ sym (earliest_append first (position_fault entry b) (position_faults_from false (drop (k + 1) ys)))
-    ∙ ap (λ (zs : List Block). earliest first (position_faults_from entry zs)) (sym cut)
-    ∙ so_far
-  where
-    next_one : suc k ≡ k + 1
-    next_one = omega arith
-
-    cut : drop k ys ≡ b ∷ drop (k + 1) ys
-    cut = subst (λ (zs : List Block). drop k zs ≡ b ∷ drop (k + 1) zs) same (drop-cons xs k b within ∙ ap (λ (z : Block). z ∷ drop (suc k) xs) (sym is) ∙ ap (λ (n : ℕ). b ∷ drop n xs) next_one)
+    fold_next earlier first next all (position_fault entry b) (position_faults_from false (drop (k + 1) ys)) (position_faults_from entry (drop k ys)) e
+      (ap (position_faults_from entry) (cut xs ys k b same within is)) so_far

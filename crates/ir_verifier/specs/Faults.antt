@@ -1,5 +1,5 @@
 -- For each rule of functions, the places at which it is broken, as lists in text order.
-use Rattle.std.specs.Prelude.{ℕ, ◌/◌, ◌==◌, nat_eq, nat_lt, ℤ, pos, negsuc, Bool, true, false, not, ◌&&◌, ◌||◌, if◌then◌else◌, List, [], ◌∷◌, ◌++◌, Option, Some, None, slice_get}
+use Rattle.std.specs.Prelude.{ℕ, ◌/◌, ◌==◌, nat_eq, nat_lt, ℤ, pos, negsuc, Bool, true, false, not, ◌&&◌, ◌||◌, if◌then◌else◌, List, [], ◌∷◌, ◌++◌, map, fold, Option, Some, None, slice_get}
 use Rattle.std.specs.List.{flat_map, list_any, list_all}
 use Rattle.oi_base.specs.declared.ids.Place.{Place}
 use Rattle.oi_base.specs.declared.words.Width.{Width}
@@ -22,7 +22,10 @@ use Rattle.ir_core.specs.declared.op.End.{End}
 use Rattle.ir_core.specs.declared.func.Instr.{Instr}
 use Rattle.ir_core.specs.declared.func.Block.{Block}
 use Rattle.ir_core.specs.declared.func.Func.{Func}
-use Rattle.ir_core.specs.Parts.{targets}
+use Rattle.ir_core.specs.declared.func.Param.{Param}
+use Rattle.ir_core.specs.declared.module.GlobalVar.{GlobalVar}
+use Rattle.ir_core.specs.declared.module.Module.{Module}
+use Rattle.ir_core.specs.Parts.{targets, op_labels}
 use Rattle.ir_core.specs.Stands.{Step, Does, Ends, op_operands, end_operands}
 
 -- a place where something is so
@@ -190,3 +193,79 @@ position_faults_from entry (b ∷ bs) = position_fault entry b ++ position_fault
 
 abbrev pub position_faults : Func → List Place
 position_faults f = position_faults_from true f.blocks
+
+-- ---- references
+
+-- a set of numbers with more
+abbrev pub with_numbers : List ℕ → List ℕ → List ℕ
+with_numbers ns more = fold with_number ns more
+
+abbrev pub numbers_of : List ℕ → List ℕ
+numbers_of ns = with_numbers [] ns
+
+abbrev pub param_number : Param → ℕ
+param_number q = q.name.0
+
+abbrev pub result_number : Instr → List ℕ
+result_number i = of_result i.result
+  where
+    of_result : Option LocalId → List ℕ
+    of_result None = []
+    of_result (Some x) = x.0 ∷ []
+
+abbrev pub block_results : Block → List ℕ
+block_results b = flat_map result_number b.code
+
+-- the parameters and registers, the labels, and the global variables
+abbrev pub value_numbers : Func → List ℕ
+value_numbers f = with_numbers (numbers_of (map param_number f.params)) (flat_map block_results f.blocks)
+
+abbrev pub label_number : Block → ℕ
+label_number b = b.label.0
+
+abbrev pub label_numbers : Func → List ℕ
+label_numbers f = numbers_of (map label_number f.blocks)
+
+abbrev pub global_number : GlobalVar → ℕ
+global_number g = g.name.0
+
+abbrev pub global_numbers : Module → List ℕ
+global_numbers m = numbers_of (map global_number m.globals)
+
+-- what may be named
+pub record Scope : Type 0 where
+  pub values : List ℕ
+  pub labels : List ℕ
+  pub globals : List ℕ
+
+abbrev pub scope_of : Module → Func → Scope
+scope_of m f = record { values = value_numbers f; labels = label_numbers f; globals = global_numbers m }
+
+-- a constant names global variables alone; what is no operand names nothing
+abbrev pub is_known_const : Scope → Const → Bool
+is_known_const s (consts.Address g) = list_any (nat_eq g.0) s.globals
+is_known_const s (consts.Gep t g is) = list_any (nat_eq g.0) s.globals
+is_known_const s _ = true
+
+abbrev pub is_known_value : Scope → Operand → Bool
+is_known_value s (operands.Local x) = list_any (nat_eq x.0) s.values
+is_known_value s (operands.Const c) = is_known_const s c
+
+abbrev pub is_known : Scope → TypedOperand → Bool
+is_known s a = is_known_value s a.value
+
+abbrev pub is_label : Scope → LocalId → Bool
+is_label s x = list_any (nat_eq x.0) s.labels
+
+abbrev pub op_is_known : Scope → Op → Bool
+op_is_known s op = list_all (is_known s) (op_operands op) && list_all (is_label s) (op_labels op)
+
+abbrev pub end_is_known : Scope → End → Bool
+end_is_known s e = list_all (is_known s) (end_operands e) && list_all (is_label s) (targets e)
+
+abbrev pub step_is_known : Scope → Step → Bool
+step_is_known s (Does i) = op_is_known s i.op
+step_is_known s (Ends b) = end_is_known s b.end
+
+abbrev pub reference_faults : Scope → Func → List Place
+reference_faults s f = step_faults (λ (t : Step). not (step_is_known s t)) f

@@ -1,5 +1,5 @@
 -- The first of the places at which a rule is broken.
-use Rattle.std.specs.Prelude.{◌≡◌, if◌then◌else◌, List, [], ◌∷◌, Option, Some, None}
+use Rattle.std.specs.Prelude.{◌≡◌, if◌then◌else◌, List, fold, Option, Some, None}
 use Rattle.oi_base.specs.declared.ids.Place.{Place}
 use Rattle.ir_core.specs.Stands.{is_up_to}
 use Rattle.ir_core.specs.FirstBroken.{IsFirstPlace}
@@ -15,5 +15,4 @@ earlier (Some q) p = if is_up_to q p then Some q else Some p
 
 -- the first of a place and some more
 abbrev pub earliest : Option Place → List Place → Option Place
-earliest first [] = first
-earliest first (p ∷ ps) = earliest (earlier first p) ps
+earliest first ps = fold earlier first ps

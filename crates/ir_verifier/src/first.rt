@@ -1,6 +1,7 @@
 ghost use Rattle.std.specs.Prelude.{◌≡◌};
 ghost use Rattle.ir_core.specs.Stands.{is_up_to};
-ghost use Rattle.ir_verifier.specs.First.{earlier};
+ghost use Rattle.ir_verifier.specs.First.{earlier, earliest};
+ghost use Rattle.ir_verifier.specs.Faults.{place_if};
 
 use oi_base::Place;
 
@@ -12,6 +13,13 @@ pub fn earlier(first: Option<Place>, p: Place) -> Option<Place>
         Some(q) if is_up_to(q, p) => Some(q),
         _ => Some(p),
     }
+}
+
+/// The earlier of two places, where the second counts.
+pub fn earlier_if(first: Option<Place>, counts: bool, p: Place) -> Option<Place>
+    ensures { result ≡ earliest first (place_if counts p) }
+{
+    if counts { earlier(first, p) } else { first }
 }
 
 /// Whether a place is the other or stands before it.

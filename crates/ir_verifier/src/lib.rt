@@ -7,3 +7,5 @@ mod entry;
 mod first;
 mod numbers;
 mod positions;
+mod references;
+mod scope;

@@ -1,0 +1,13 @@
+use Rattle.std.proofs.Common.{◌≡◌, drop, map, None, not, ◌++◌}
+use Rattle.std.specs.List.{flat_map, list_all}
+use Rattle.ir_core.specs.declared.op.Pair.{Pair}
+use Rattle.ir_core.specs.declared.op.SwitchCase.{SwitchCase}
+use Rattle.ir_core.specs.declared.func.Instr.{Instr}
+use Rattle.ir_core.specs.Stands.{Step, typed}
+use Rattle.ir_verifier.specs.First.{earliest}
+use Rattle.ir_verifier.specs.Faults.{place_if, block_faults, is_known, is_label, op_is_known, end_is_known, step_is_known, reference_faults, with_numbers, numbers_of, param_number, global_number, label_number, result_number, block_results, value_numbers}
+use Rattle.ir_verifier.proofs.references.first_fault.Given as goal
+
+abbrev pub invariant-loop-block : goal.invariant-loop-block
+invariant-loop-block l =
+    earliest l.first (flat_map (block_faults (λ (s : Step). not (step_is_known l.scope s))) (drop l.block-index l.f.blocks)) ≡ earliest None (reference_faults l.scope l.f)

@@ -1,0 +1,14 @@
+use Rattle.std.proofs.Common.{◌≡◌, drop, map, None, not, ◌++◌}
+use Rattle.std.specs.List.{flat_map, list_all}
+use Rattle.ir_core.specs.declared.op.Pair.{Pair}
+use Rattle.ir_core.specs.declared.op.SwitchCase.{SwitchCase}
+use Rattle.ir_core.specs.declared.func.Instr.{Instr}
+use Rattle.ir_core.specs.Stands.{Step, typed}
+use Rattle.ir_verifier.specs.First.{earliest}
+use Rattle.ir_verifier.specs.Faults.{place_if, block_faults, is_known, is_label, op_is_known, end_is_known, step_is_known, reference_faults, with_numbers, numbers_of, param_number, global_number, label_number, result_number, block_results, value_numbers}
+use Rattle.ir_verifier.proofs.references.in_block.Given as goal
+
+abbrev pub invariant-loop-instr : goal.invariant-loop-instr
+invariant-loop-instr l =
+    earliest l.first (flat_map (λ (i : Instr). place_if (not (op_is_known l.scope i.op)) i.place) (drop l.instr-index l.block.code) ++ place_if (not (end_is_known l.scope l.block.end)) l.block.end_place)
+    ≡ earliest l.fn.before (block_faults (λ (s : Step). not (step_is_known l.scope s)) l.block)
