@@ -112,4 +112,4 @@ module _ (f : Func) where
   pub constants_found : IsFound (BreaksConstants f) (earliest None (constant_faults f))
   constants_found =
       subst (λ (ps : List Place). IsFound (BreaksConstants f) (earliest None ps)) (sym (step_places (λ (s : Step). not (step_fits s)) f.blocks))
-        (found_at (λ (s : Step). not (step_fits s)) place_of IsBad (λ s. (bad_decides s).yes) (λ s. (bad_decides s).no) (steps f))
+      (found_at (λ (s : Step). not (step_fits s)) place_of IsBad (λ s. (bad_decides s).yes) (λ s. (bad_decides s).no) (steps f))

@@ -30,7 +30,7 @@ module _ (f : Func) where
       let same : b.0 ≡ entry = let e : Some b.0 ≡ Some entry = sym b.1 ∙ at in cc in
       let names : Contains (targets k.end) entry.label = subst (λ (e : Block). Contains (targets k.end) e.label) same b.2.3 in
       subst (Has (faults_of (Some entry))) b.2.2
-        (has_fault (names_entry entry.label) (λ (e : Block). e.end_place) f.blocks k (has f.blocks k b.2.1) (has_named entry.label (targets k.end) (has (targets k.end) entry.label names)))
+      (has_fault (names_entry entry.label) (λ (e : Block). e.end_place) f.blocks k (has f.blocks k b.2.1) (has_named entry.label (targets k.end) (has (targets k.end) entry.label names)))
 
   pub entry_found : IsFound (BreaksEntry f) (earliest None (entry_faults f))
   entry_found = found (BreaksEntry f) (entry_faults f) (sound (slice_get f.blocks 0) refl) (complete (slice_get f.blocks 0) refl)

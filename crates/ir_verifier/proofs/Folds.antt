@@ -29,4 +29,4 @@ module _ {S X : Type 0} (add : S → X → S) where
       next ≡ fold add s (g a) → as' ≡ bs → k < length as' → a ≡ slice_index_or as' k a → fold add s (flat_map g (drop k bs) ++ tail) ≡ all → fold add next (flat_map g (drop (k + 1) bs) ++ tail) ≡ all
   fold_step_before tail g s next all as' bs k a e same within is so_far =
       fold_next s next all (g a) (flat_map g (drop (k + 1) bs) ++ tail) (flat_map g (drop k bs) ++ tail) e
-        (ap (λ cs. flat_map g cs ++ tail) (cut as' bs k a same within is) ∙ append_assoc (g a) (flat_map g (drop (k + 1) bs)) tail) so_far
+      (ap (λ cs. flat_map g cs ++ tail) (cut as' bs k a same within is) ∙ append_assoc (g a) (flat_map g (drop (k + 1) bs)) tail) so_far

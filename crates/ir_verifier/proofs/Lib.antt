@@ -11,3 +11,4 @@ mod PositionLaws
 mod ReferenceLaws
 mod PlainOperands
 mod ReferencesFound
+mod NameLaws

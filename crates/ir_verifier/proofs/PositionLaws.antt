@@ -191,7 +191,7 @@ blocks_complete (b ∷ bs) entry p a = by_index a.0 a.4 a.7 (blocks_complete bs 
     by_index zero e r rest =
         let same : a.2 ≡ b = (let s : Some b ≡ Some a.2 = e in cc) in
         has_left (position_fault entry b) (position_faults_from false bs) p
-          (complete entry b.code false p (subst (λ (k : Block). Wrong entry false k.code p) same (a.1, a.3, a.5, a.6, reason r)))
+        (complete entry b.code false p (subst (λ (k : Block). Wrong entry false k.code p) same (a.1, a.3, a.5, a.6, reason r)))
       where
         is_entry : (zero ≢ zero) ⊎ (entry ≡ false) → entry ≡ false
         is_entry (inl g) = absurd (g refl)
@@ -233,4 +233,4 @@ pub positions_step : (first next all : Option Place) (entry : Bool) (xs ys : Lis
     → earliest first (position_faults_from entry (drop k ys)) ≡ all → earliest next (position_faults_from false (drop (k + 1) ys)) ≡ all
 positions_step first next all entry xs ys k b e same within is so_far =
     fold_next earlier first next all (position_fault entry b) (position_faults_from false (drop (k + 1) ys)) (position_faults_from entry (drop k ys)) e
-      (ap (position_faults_from entry) (cut xs ys k b same within is)) so_far
+    (ap (position_faults_from entry) (cut xs ys k b same within is)) so_far

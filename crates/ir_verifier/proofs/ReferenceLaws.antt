@@ -186,11 +186,11 @@ module _ (m : Module) (f : Func) where
       to_number : IsParam f x ⊎ IsRegister f x → Has (value_numbers f) x.0
       to_number (inl q) =
           numbers_in (flat_map block_results f.blocks) (numbers_of (map param_number f.params)) x.0
-            (inl (numbers_in (map param_number f.params) [] x.0 (inr (subst (λ (y : LocalId). Has (map param_number f.params) y.0) q.2 (mapped_has param_number f.params q.0 (has f.params q.0 q.1))))))
+          (inl (numbers_in (map param_number f.params) [] x.0 (inr (subst (λ (y : LocalId). Has (map param_number f.params) y.0) q.2 (mapped_has param_number f.params q.0 (has f.params q.0 q.1))))))
       to_number (inr r) =
           let b = has_made (λ (k : Block). k.code) f.blocks r.0 (has (instrs f) r.0 r.1) in
           numbers_in (flat_map block_results f.blocks) (numbers_of (map param_number f.params)) x.0
-            (inr (has_part block_results f.blocks b.0 x.0 b.1 (has_part result_number b.0.code r.0 x.0 b.2 (has_result r.0.place r.0.result r.0.op x r.2))))
+          (inr (has_part block_results f.blocks b.0 x.0 b.1 (has_part result_number b.0.code r.0 x.0 b.2 (has_result r.0.place r.0.result r.0.op x r.2))))
 
   abbrev NamesKnown : Const → Type 0
   NamesKnown c = (s : SymId) → Contains (const_symbols c) s → IsVariable m s

@@ -21,6 +21,6 @@ step_test c (Ends b) = refl
 pub references_found : (m : Module) (f : Func) → IsProperFunc f → IsFound (BreaksReferences m f) (earliest None (reference_faults (scope_of m f) f))
 references_found m f proper =
     subst (λ (ps : List Place). IsFound (BreaksReferences m f) (earliest None ps)) (sym (step_places (λ (s : Step). not (step_is_known (scope_of m f) s)) f.blocks))
-      (found_in (λ (s : Step). not (step_is_known (scope_of m f) s)) place_of (RefersWrongly m f) (steps f)
-        (λ s h e. wrong m f s (plain_operands f proper s h) (step_is_known (scope_of m f) s) (step_test (scope_of m f) s) e)
-        (λ s h w. right m f s (plain_operands f proper s h) (step_is_known (scope_of m f) s) (step_test (scope_of m f) s) w))
+    (found_in (λ (s : Step). not (step_is_known (scope_of m f) s)) place_of (RefersWrongly m f) (steps f)
+    (λ s h e. wrong m f s (plain_operands f proper s h) (step_is_known (scope_of m f) s) (step_test (scope_of m f) s) e)
+    (λ s h w. right m f s (plain_operands f proper s h) (step_is_known (scope_of m f) s) (step_test (scope_of m f) s) w))

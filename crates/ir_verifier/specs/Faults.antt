@@ -26,6 +26,8 @@ use Rattle.ir_core.specs.declared.func.Param.{Param}
 use Rattle.ir_core.specs.declared.module.GlobalVar.{GlobalVar}
 use Rattle.ir_core.specs.declared.module.Module.{Module}
 use Rattle.ir_core.specs.Parts.{targets, op_labels}
+use Rattle.ir_core.specs.ValidFunc.{LocalAt}
+use Rattle.ir_verifier.specs.First.{earliest}
 use Rattle.ir_core.specs.Stands.{Step, Does, Ends, op_operands, end_operands}
 
 -- a place where something is so
@@ -269,3 +271,22 @@ step_is_known s (Ends b) = end_is_known s b.end
 
 abbrev pub reference_faults : Scope → Func → List Place
 reference_faults s f = step_faults (λ (t : Step). not (step_is_known s t)) f
+
+-- ---- names
+
+-- the names so far, and the first place at which one of them stood again
+pub record Introduced : Type 0 where
+  pub names : List ℕ
+  pub first : Option Place
+
+abbrev pub nothing_yet : Introduced
+nothing_yet = record { names = []; first = None }
+
+abbrev pub with_local : Introduced → LocalAt → Introduced
+with_local s l = record { names = with_number s.names l.name.0; first = earliest s.first (place_if (list_any (nat_eq l.name.0) s.names) l.place) }
+
+abbrev pub with_locals : Introduced → List LocalAt → Introduced
+with_locals s ls = fold with_local s ls
+
+abbrev pub param_at : Place → Param → LocalAt
+param_at p q = record { name = q.name; place = p }

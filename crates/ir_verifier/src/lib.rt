@@ -5,6 +5,7 @@ mod cases;
 mod constants;
 mod entry;
 mod first;
+mod names;
 mod numbers;
 mod positions;
 mod references;
