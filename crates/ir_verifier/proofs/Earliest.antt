@@ -11,7 +11,7 @@ use Rattle.ir_verifier.specs.First.{earlier, earliest, IsFound}
 
 -- ---- the order of places
 
-up_to_itself : (p : Place) → is_up_to p p ≡ true
+pub up_to_itself : (p : Place) → is_up_to p p ≡ true
 up_to_itself p = grind (arith, nat_tests)
 
 up_to_trans : (p q r : Place) → is_up_to p q ≡ true → is_up_to q r ≡ true → is_up_to p r ≡ true

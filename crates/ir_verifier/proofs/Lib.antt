@@ -12,3 +12,4 @@ mod ReferenceLaws
 mod PlainOperands
 mod ReferencesFound
 mod NameLaws
+mod Listing

@@ -14,7 +14,7 @@ use std::alloc::Global;
 
 /// The first switch whose cases are not different words.
 #[tactic(auto, using(crate::proofs::CaseLaws::cases_found))]
-pub fn cases(alloc: Global, f: &Func) -> Result<Option<Place>, NoMemory>
+pub fn first_break(alloc: Global, f: &Func) -> Result<Option<Place>, NoMemory>
     ensures found { (m : modules.Module) → IfOk result (IsFound (BreaksCases m f.now)) }
 {
     first_fault(alloc, f)

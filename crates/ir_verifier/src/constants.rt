@@ -14,7 +14,7 @@ use oi_base::{Place, Width};
 
 #[tactic(auto, using(crate::proofs::ConstantLaws::constants_found))]
 /// The first integer constant that does not fit its width, `true` or `false` that is no `i1`, or `null` that is no `ptr`.
-pub fn constants(f: &Func) -> Option<Place>
+pub fn first_break(f: &Func) -> Option<Place>
     ensures found { IsFound (BreaksConstants f.now) result }
 {
     first_fault(f)

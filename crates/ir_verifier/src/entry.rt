@@ -11,7 +11,7 @@ use oi_base::Place;
 
 /// The first terminator that names the entry block.
 #[tactic(auto, using(crate::proofs::EntryLaws::entry_found))]
-pub fn entry(f: &Func) -> Option<Place>
+pub fn first_break(f: &Func) -> Option<Place>
     ensures found { IsFound (BreaksEntry f.now) result }
 {
     first_fault(f)

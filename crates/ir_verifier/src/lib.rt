@@ -5,8 +5,11 @@ mod cases;
 mod constants;
 mod entry;
 mod first;
+mod has_main;
 mod names;
 mod numbers;
 mod positions;
 mod references;
 mod scope;
+#[cfg(test)]
+mod tests;

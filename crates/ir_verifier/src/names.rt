@@ -52,7 +52,7 @@ impl Introduced {
 }
 
 /// The first parameter, register or block that has the name of one before it.
-pub fn names(alloc: Global, f: &Func) -> Result<Option<Place>, NoMemory>
+pub fn first_break(alloc: Global, f: &Func) -> Result<Option<Place>, NoMemory>
     ensures found { IfOk result (IsFound (BreaksNames f.now)) }
 {
     let introduced = introduce(alloc, f)?;

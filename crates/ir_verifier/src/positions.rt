@@ -9,7 +9,7 @@ use oi_base::Place;
 
 /// The first phi behind something else in its block, or alloca outside the entry block.
 #[tactic(auto, using(crate::proofs::PositionLaws::positions_found))]
-pub fn positions(f: &Func) -> Option<Place>
+pub fn first_break(f: &Func) -> Option<Place>
     ensures found { IsFound (BreaksPositions f.now) result }
 {
     first_fault(f)

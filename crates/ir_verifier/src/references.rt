@@ -15,7 +15,7 @@ use oi_base::{NoMemory, Place};
 use std::alloc::Global;
 
 /// The first value that is no parameter, register or global variable, or label that is no block's.
-pub fn references(alloc: Global, globals: &Numbers, f: &Func) -> Result<Option<Place>, NoMemory>
+pub fn first_break(alloc: Global, globals: &Numbers, f: &Func) -> Result<Option<Place>, NoMemory>
     requires proper { IsProperFunc f.now }
     ensures found { (m : modules.Module) → globals.now ≡ global_numbers m → IfOk result (IsFound (BreaksReferences m f.now)) }
 {

@@ -3,7 +3,7 @@ use Rattle.ir_core.specs.ValidFunc.{BreaksReferences}
 use Rattle.ir_verifier.specs.First.{earliest, IsFound}
 use Rattle.ir_verifier.specs.Faults.{reference_faults}
 use Rattle.ir_verifier.proofs.ReferencesFound.{references_found}
-use Rattle.ir_verifier.proofs.references.references.Goals as goal
+use Rattle.ir_verifier.proofs.references.first_break.Goals as goal
 
 -- src/references.rt:18:1
 pub returns : goal.returns

@@ -3,7 +3,7 @@ use Rattle.std.proofs.lemmas.Result.{IfOk-weaker}
 use Rattle.ir_core.specs.ValidOps.{BreaksCases}
 use Rattle.ir_verifier.specs.First.{IsFound}
 use Rattle.ir_verifier.proofs.CaseLaws.{cases_found}
-use Rattle.ir_verifier.proofs.cases.cases.Goals as goal
+use Rattle.ir_verifier.proofs.cases.first_break.Goals as goal
 
 -- src/cases.rt:16:1
 pub returns : goal.returns
