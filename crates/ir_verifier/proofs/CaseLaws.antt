@@ -1,17 +1,10 @@
 -- The places at which the rule of switches is broken.
-use Rattle.std.proofs.Common.{◌≡◌, ◌≢◌, ◌⊎◌, inl, inr, refl, sym, ap, ◌∙◌, subst, Bool, true, false, not, ◌&&◌, ◌||◌, if◌then◌else◌, nat_eq, ℕ, ℤ, zero, suc, ◌<◌, List, [], ◌∷◌, ◌++◌, length, slice_index_or, Option, Some, None, All, AllPairs, arith}
+use Rattle.std.proofs.Common.{◌≡◌, ◌≢◌, ◌⊎◌, inl, inr, refl, sym, ap, ◌∙◌, subst, Bool, true, false, not, ◌&&◌, ◌||◌, if◌then◌else◌, nat_eq, ℕ, zero, suc, ◌<◌, List, [], ◌∷◌, ◌++◌, length, slice_index_or, Option, Some, None, All, AllPairs, arith}
 use Rattle.std.specs.List.{list_any}
 use Rattle.std.proofs.lemmas.Bool.Decides.{nat_tests}
 use Rattle.std.proofs.lemmas.List.Kept.{AllPairs-cons}
-use Rattle.oi_base.specs.declared.ids.Place.{Place}
-use Rattle.oi_base.specs.Words.{modulus, word_of}
 use Rattle.ir_core.specs.declared.ty.TypeDef.{TypeDef}
-use Rattle.ir_core.specs.declared.ty.IrType.{IrType, Void, Int, Ptr, Array', Struct', Named}
 use Rattle.ir_core.specs.declared.module.Module.{Module}
-use Rattle.ir_core.specs.declared.constant.Const.{Const}
-use Rattle.ir_core.specs.declared.constant.Const as consts
-use Rattle.ir_core.specs.declared.op.Operand.{Operand}
-use Rattle.ir_core.specs.declared.op.Operand.TheVariants as operands
 use Rattle.ir_core.specs.declared.op.SwitchCase.{SwitchCase}
 use Rattle.ir_core.specs.declared.op.End.{End}
 use Rattle.ir_core.specs.declared.op.End.TheVariants.{Ret, Br, Cond, Switch, Unreachable}
@@ -21,8 +14,8 @@ use Rattle.ir_core.specs.ValidConsts.{Meaning, IsWord, meaning}
 use Rattle.ir_core.specs.ValidOps.{IsCaseWord, HasGoodCases, BreaksCases}
 use Rattle.ir_core.proofs.Lists.{Has, has_left, has_right}
 use Rattle.ir_verifier.specs.First.{earliest, IsFound}
-use Rattle.ir_verifier.specs.Faults.{with_number, number_word, zero_word, word_value, is_new_word, with_word, is_new_case, with_case, are_good_cases, has_good_cases, case_fault, case_faults}
-use Rattle.ir_verifier.proofs.Tests.{Decides, always, never, negated}
+use Rattle.ir_verifier.specs.Faults.{word_value, is_new_word, with_word, are_good_cases, has_good_cases, case_faults}
+use Rattle.ir_verifier.proofs.Decided.{Decides, always, never, negated}
 use Rattle.ir_verifier.proofs.Faulty.{has_in}
 use Rattle.ir_verifier.proofs.CaseWords.{Agree, agrees}
 use Rattle.ir_verifier.proofs.At.{found_at}

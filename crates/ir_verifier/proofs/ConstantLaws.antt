@@ -1,11 +1,9 @@
 -- The places at which the rule of constants is broken.
-use Rattle.std.proofs.Common.{◌≡◌, refl, sym, ap, ◌∙◌, subst, Bool, true, false, not, ◌&&◌, ℕ, ◌<◌, ◌/◌, nat_lt, ℤ, pos, negsuc, List, [], ◌∷◌, Option, Some, None, All, arith}
+use Rattle.std.proofs.Common.{◌≡◌, refl, sym, subst, false, not, ℤ, pos, negsuc, List, Option, Some, None, All, arith}
 use Rattle.std.specs.List.{list_all}
 use Rattle.std.proofs.lemmas.Bool.Decides.{nat_tests}
-use Rattle.std.proofs.lemmas.List.Sums.{AllPass-from_list_all, list_all-from_AllPass}
 use Rattle.oi_base.specs.declared.words.Width.{Width}
 use Rattle.oi_base.specs.declared.words.Width.TheVariants.{W1, W8, W16, W32}
-use Rattle.oi_base.specs.Words.{modulus}
 use Rattle.ir_core.specs.declared.ty.IrType.{IrType, Void, Int, Ptr, Array', Struct', Named}
 use Rattle.ir_core.specs.declared.constant.Const.{Const}
 use Rattle.ir_core.specs.declared.constant.Const as consts
@@ -16,15 +14,14 @@ use Rattle.ir_core.specs.declared.op.Operand.TheVariants as operands
 use Rattle.ir_core.specs.declared.op.TypedOperand.{TypedOperand}
 use Rattle.ir_core.specs.declared.op.Op.{Op}
 use Rattle.ir_core.specs.declared.op.Op.TheVariants.{Bin, Icmp, Select, Cast, Alloca, Load, Store, Gep, Phi, Call}
-use Rattle.ir_core.specs.declared.func.Instr.{Instr}
 use Rattle.ir_core.specs.declared.func.Func.{Func}
 use Rattle.oi_base.specs.declared.ids.Place.{Place}
 use Rattle.ir_core.specs.Stands.{Step, Does, Ends, steps, place_of, op_operands, end_operands, operands_of}
-use Rattle.ir_core.specs.ValidConsts.{Fits, FitsType, IndicesFit}
+use Rattle.ir_core.specs.ValidConsts.{Fits, FitsType}
 use Rattle.ir_core.specs.ValidOps.{ConstFits, OperandFits, CountFits, BreaksConstants}
 use Rattle.ir_verifier.specs.First.{earliest, IsFound}
-use Rattle.ir_verifier.specs.Faults.{fits, fits_type, is_bit, is_pointer, count_fits, const_fits, value_fits, operand_fits, op_count_fits, op_fits, end_fits, step_fits, constant_faults}
-use Rattle.ir_verifier.proofs.Tests.{Decides, always, never, both, negated, each}
+use Rattle.ir_verifier.specs.Faults.{fits, fits_type, is_bit, is_pointer, count_fits, const_fits, value_fits, operand_fits, op_count_fits, step_fits, constant_faults}
+use Rattle.ir_verifier.proofs.Decided.{Decides, always, never, both, negated, each}
 use Rattle.ir_verifier.proofs.At.{found_at, step_places}
 
 fits_decides : (w : Width) (n : ℤ) → Decides (fits w n) (Fits w n)

@@ -1,12 +1,10 @@
 -- The first of the places at which a rule is broken.
-use Rattle.std.proofs.Common.{◌≡◌, ◌⊎◌, inl, inr, refl, sym, ap, ◌∙◌, subst, Bool, true, false, cond, IsTrue, ℕ, suc, ◌+◌, ◌<◌, ◌≤◌, List, [], ◌∷◌, ◌++◌, Option, Some, None, Contains, length, slice_index_or, drop, arith}
+use Rattle.std.proofs.Common.{◌≡◌, ◌⊎◌, inl, inr, refl, sym, ap, ◌∙◌, subst, Bool, true, false, cond, IsTrue, List, [], ◌∷◌, Some, None, arith}
 use Rattle.std.proofs.lemmas.Bool.Decides.{nat_tests}
-use Rattle.std.specs.List.{flat_map}
-use Rattle.std.proofs.Math.Seq.{drop-cons}
 use Rattle.oi_base.specs.declared.ids.Place.{Place}
 use Rattle.ir_core.specs.Stands.{is_up_to}
 use Rattle.ir_core.specs.FirstBroken.{IsFirstPlace}
-use Rattle.ir_core.proofs.Lists.{Has, contains}
+use Rattle.ir_core.proofs.Lists.{Has}
 use Rattle.ir_verifier.specs.First.{earlier, earliest, IsFound}
 
 -- ---- the order of places

@@ -1,7 +1,7 @@
 pub mod Folds
 pub mod Earliest
 pub mod Faulty
-pub mod Tests
+pub mod Decided
 pub mod At
 mod EntryLaws
 mod ConstantLaws

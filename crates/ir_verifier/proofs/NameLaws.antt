@@ -1,14 +1,13 @@
 -- The places at which the rule of names is broken.
-use Rattle.std.proofs.Common.{◌≡◌, ◌⊎◌, inl, inr, refl, sym, ap, ◌∙◌, subst, Bool, true, false, if◌then◌else◌, nat_eq, ℕ, zero, suc, ◌<◌, List, [], ◌∷◌, ◌++◌, fold, Option, Some, None, slice_get, arith}
+use Rattle.std.proofs.Common.{◌≡◌, ◌⊎◌, inl, inr, refl, sym, ap, ◌∙◌, subst, Bool, true, false, if◌then◌else◌, nat_eq, ℕ, zero, suc, ◌<◌, List, [], ◌∷◌, ◌++◌, Some, None, slice_get, arith}
 use Rattle.std.specs.List.{list_any}
 use Rattle.oi_base.specs.declared.ids.Place.{Place}
 use Rattle.ir_core.specs.declared.op.LocalId.{LocalId}
 use Rattle.ir_core.specs.declared.func.Func.{Func}
 use Rattle.ir_core.specs.ValidFunc.{LocalAt, locals_at, BreaksNames}
-use Rattle.ir_core.proofs.Lists.{Has, has_left, has_right, has_at}
+use Rattle.ir_core.proofs.Lists.{Has, has_left, has_right}
 use Rattle.ir_verifier.specs.First.{earlier, earliest, IsFound}
 use Rattle.ir_verifier.specs.Faults.{place_if, with_number, Introduced, nothing_yet, with_local, with_locals}
-use Rattle.ir_verifier.proofs.Tests.{Decides}
 use Rattle.ir_verifier.proofs.Faulty.{has_in}
 use Rattle.ir_verifier.proofs.Earliest.{found}
 use Rattle.std.proofs.lemmas.List.Sums.{fold-append}

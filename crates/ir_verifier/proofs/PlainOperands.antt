@@ -1,8 +1,6 @@
 -- The constants that are operands of a proper function are no aggregates.
-use Rattle.std.proofs.Common.{◌≡◌, ◌⊎◌, inl, inr, refl, sym, ap, ◌∙◌, subst, List, [], ◌∷◌, ◌++◌, map, Option, Some, None, All, slice_index_or, length, ◌<◌, ℕ}
+use Rattle.std.proofs.Common.{◌≡◌, ◌⊎◌, inl, inr, refl, sym, ap, subst, List, [], ◌∷◌, ◌++◌, map, Some, None, All}
 use Rattle.std.specs.List.{flat_map}
-use Rattle.ir_core.specs.declared.constant.Const.{Const}
-use Rattle.ir_core.specs.declared.op.LocalId.{LocalId}
 use Rattle.ir_core.specs.declared.op.Operand.{Operand}
 use Rattle.ir_core.specs.declared.op.Operand.TheVariants as operands
 use Rattle.ir_core.specs.declared.op.TypedOperand.{TypedOperand}
@@ -19,7 +17,6 @@ use Rattle.ir_core.specs.Proper.{IsValue, IsProperFunc}
 use Rattle.ir_core.specs.Parts.{op_values, end_values, block_values, func_values, operand_consts, func_consts}
 use Rattle.ir_core.specs.Stands.{Step, Does, Ends, steps, block_steps, op_operands, end_operands, operands_of, typed}
 use Rattle.ir_core.proofs.Lists.{Has, has_left, has_right, has_part, contains}
-use Rattle.ir_verifier.proofs.Faulty.{has_in}
 use Rattle.ir_verifier.proofs.ReferenceLaws.{has_made, IsPlain}
 
 abbrev value : TypedOperand → Operand

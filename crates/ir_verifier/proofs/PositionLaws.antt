@@ -1,6 +1,5 @@
 -- The places at which the rule of positions is broken.
-use Rattle.std.proofs.Common.{◌≡◌, ◌≢◌, ◌⊎◌, inl, inr, refl, sym, ap, ◌∙◌, subst, Bool, true, false, not, ◌&&◌, ◌||◌, cond, if◌then◌else◌, ℕ, zero, suc, ◌+◌, ◌<◌, List, [], ◌∷◌, ◌++◌, length, slice_index_or, drop, Option, Some, None, slice_get, arith}
-use Rattle.std.proofs.Math.Seq.{drop-cons}
+use Rattle.std.proofs.Common.{◌≡◌, ◌≢◌, ◌⊎◌, inl, inr, refl, ap, subst, Bool, true, false, not, ◌&&◌, ◌||◌, if◌then◌else◌, ℕ, zero, suc, ◌+◌, ◌<◌, List, [], ◌∷◌, length, slice_index_or, drop, Option, Some, None, slice_get, arith}
 use Rattle.oi_base.specs.declared.ids.Place.{Place}
 use Rattle.ir_core.specs.declared.op.Op.{Op}
 use Rattle.ir_core.specs.declared.op.Op.TheVariants.{Bin, Icmp, Select, Cast, Alloca, Load, Store, Gep, Phi, Call}
@@ -11,7 +10,7 @@ use Rattle.ir_core.specs.ValidFunc.{IsPhi, IsAlloca, IsLatePhi, BreaksPositions}
 use Rattle.ir_core.proofs.Lists.{Has, has_left, has_right}
 use Rattle.ir_verifier.specs.First.{earlier, earliest, IsFound}
 use Rattle.ir_verifier.specs.Faults.{place_if, is_phi, is_alloca, is_misplaced, code_faults, position_fault, position_faults_from, position_faults}
-use Rattle.ir_verifier.proofs.Tests.{Decides, always, never, both, negated}
+use Rattle.ir_verifier.proofs.Decided.{Decides, always, never, negated}
 use Rattle.ir_verifier.proofs.Faulty.{has_in}
 use Rattle.ir_verifier.proofs.Earliest.{found}
 use Rattle.ir_verifier.proofs.Folds.{fold_next, cut}

@@ -1,10 +1,9 @@
 -- The places at which the rule of references is broken.
-use Rattle.std.proofs.Common.{◌≡◌, ◌⊎◌, inl, inr, refl, sym, ap, ◌∙◌, subst, Bool, true, false, not, ◌&&◌, ◌||◌, if◌then◌else◌, nat_eq, ℕ, List, [], ◌∷◌, ◌++◌, map, fold, Option, Some, None, Contains, All, arith}
+use Rattle.std.proofs.Common.{◌≡◌, ◌⊎◌, inl, inr, refl, sym, ap, ◌∙◌, subst, Bool, true, false, not, ◌&&◌, ◌||◌, if◌then◌else◌, nat_eq, ℕ, List, [], ◌∷◌, ◌++◌, map, Option, Some, None, Contains, arith}
 use Rattle.std.specs.List.{flat_map, list_any, list_all}
 use Rattle.std.proofs.lemmas.Bool.Decides.{nat_tests}
 use Rattle.oi_base.specs.declared.ids.Place.{Place}
 use Rattle.ir_core.specs.declared.module.SymId.{SymId}
-use Rattle.ir_core.specs.declared.module.GlobalVar.{GlobalVar}
 use Rattle.ir_core.specs.declared.module.Module.{Module}
 use Rattle.ir_core.specs.declared.constant.Const.{Const}
 use Rattle.ir_core.specs.declared.constant.Const as consts
@@ -12,27 +11,18 @@ use Rattle.ir_core.specs.declared.op.LocalId.{LocalId}
 use Rattle.ir_core.specs.declared.op.Operand.{Operand}
 use Rattle.ir_core.specs.declared.op.Operand.TheVariants as operands
 use Rattle.ir_core.specs.declared.op.TypedOperand.{TypedOperand}
-use Rattle.ir_core.specs.declared.op.Pair.{Pair}
-use Rattle.ir_core.specs.declared.op.SwitchCase.{SwitchCase}
 use Rattle.ir_core.specs.declared.op.Op.{Op}
-use Rattle.ir_core.specs.declared.op.Op.TheVariants.{Bin, Icmp, Select, Cast, Alloca, Load, Store, Gep, Phi, Call}
-use Rattle.ir_core.specs.declared.op.End.{End}
-use Rattle.ir_core.specs.declared.op.End.TheVariants.{Ret, Br, Cond, Switch, Unreachable}
-use Rattle.ir_core.specs.declared.func.Instr.{Instr}
 use Rattle.ir_core.specs.declared.func.Block.{Block}
 use Rattle.ir_core.specs.declared.func.Func.{Func}
-use Rattle.ir_core.specs.declared.func.Param.{Param}
-use Rattle.ir_core.specs.Proper.{IsValue, IsProperFunc}
-use Rattle.ir_core.specs.Parts.{instrs, op_values, end_values, block_values, func_values, operand_consts, func_consts, op_labels, targets, const_symbols}
-use Rattle.ir_core.specs.Stands.{Step, Does, Ends, steps, block_steps, place_of, op_operands, end_operands, operands_of, labels_of, typed}
+use Rattle.ir_core.specs.Proper.{IsValue}
+use Rattle.ir_core.specs.Parts.{instrs, const_symbols}
+use Rattle.ir_core.specs.Stands.{Step, operands_of, labels_of}
 use Rattle.ir_core.specs.ValidConsts.{IsVariable}
-use Rattle.ir_core.specs.ValidFunc.{IsParam, IsRegister, IsLabel, IsKnown, RefersWrongly, BreaksReferences}
+use Rattle.ir_core.specs.ValidFunc.{IsParam, IsRegister, IsLabel, IsKnown, RefersWrongly}
 use Rattle.ir_core.proofs.Lists.{Has, has_left, has_right, has_part, contains}
-use Rattle.ir_verifier.specs.First.{earliest, IsFound}
-use Rattle.ir_verifier.specs.Faults.{with_number, with_numbers, numbers_of, param_number, result_number, block_results, value_numbers, label_number, label_numbers, global_number, global_numbers, Scope, scope_of, is_known_const, is_known_value, is_known, is_label, op_is_known, end_is_known, step_is_known, reference_faults}
-use Rattle.ir_verifier.proofs.Tests.{Decides, never, some_fails, passes, false_is_not_true}
+use Rattle.ir_verifier.specs.Faults.{with_number, with_numbers, numbers_of, param_number, result_number, block_results, value_numbers, label_number, label_numbers, global_number, global_numbers, scope_of, is_known_const, is_known_value, is_known, is_label}
+use Rattle.ir_verifier.proofs.Decided.{Decides, never, some_fails, passes, false_is_not_true}
 use Rattle.ir_verifier.proofs.Faulty.{has, has_in}
-use Rattle.ir_verifier.proofs.At.{found_at, step_places}
 
 -- ---- a number in a set
 

@@ -1,10 +1,7 @@
-use Rattle.std.proofs.Common.{◌≡◌, drop, map, None, not, ◌++◌}
-use Rattle.std.specs.List.{flat_map, list_all}
-use Rattle.ir_core.specs.declared.op.Pair.{Pair}
+use Rattle.std.proofs.Common.{◌≡◌, drop, map}
+use Rattle.std.specs.List.{list_all}
 use Rattle.ir_core.specs.declared.op.SwitchCase.{SwitchCase}
-use Rattle.ir_core.specs.declared.func.Instr.{Instr}
-use Rattle.ir_core.specs.Stands.{Step, typed}
-use Rattle.ir_verifier.specs.Faults.{place_if, block_faults, is_known, is_label, op_is_known, end_is_known, step_is_known, reference_faults, with_numbers, numbers_of, param_number, global_number, label_number, result_number, block_results, value_numbers}
+use Rattle.ir_verifier.specs.Faults.{is_known}
 use Rattle.ir_verifier.proofs.references.cases_known.Given as goal
 
 abbrev pub invariant-loop-case : goal.invariant-loop-case

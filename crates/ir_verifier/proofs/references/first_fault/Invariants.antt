@@ -1,11 +1,8 @@
-use Rattle.std.proofs.Common.{◌≡◌, drop, map, None, not, ◌++◌}
-use Rattle.std.specs.List.{flat_map, list_all}
-use Rattle.ir_core.specs.declared.op.Pair.{Pair}
-use Rattle.ir_core.specs.declared.op.SwitchCase.{SwitchCase}
-use Rattle.ir_core.specs.declared.func.Instr.{Instr}
-use Rattle.ir_core.specs.Stands.{Step, typed}
+use Rattle.std.proofs.Common.{◌≡◌, drop, None, not}
+use Rattle.std.specs.List.{flat_map}
+use Rattle.ir_core.specs.Stands.{Step}
 use Rattle.ir_verifier.specs.First.{earliest}
-use Rattle.ir_verifier.specs.Faults.{place_if, block_faults, is_known, is_label, op_is_known, end_is_known, step_is_known, reference_faults, with_numbers, numbers_of, param_number, global_number, label_number, result_number, block_results, value_numbers}
+use Rattle.ir_verifier.specs.Faults.{block_faults, step_is_known, reference_faults}
 use Rattle.ir_verifier.proofs.references.first_fault.Given as goal
 
 abbrev pub invariant-loop-block : goal.invariant-loop-block
