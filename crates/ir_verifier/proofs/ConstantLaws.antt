@@ -1,0 +1,112 @@
+-- The places at which the rule of constants is broken.
+use Rattle.std.proofs.Common.{◌≡◌, refl, sym, subst, false, not, ℤ, pos, negsuc, List, Option, Some, None, All, arith}
+use Rattle.std.specs.List.{list_all}
+use Rattle.std.proofs.lemmas.Bool.Decides.{nat_tests}
+use Rattle.oi_base.specs.declared.words.Width.{Width}
+use Rattle.oi_base.specs.declared.words.Width.TheVariants.{W1, W8, W16, W32}
+use Rattle.ir_core.specs.declared.ty.IrType.{IrType, Void, Int, Ptr, Array', Struct', Named}
+use Rattle.ir_core.specs.declared.constant.Const.{Const}
+use Rattle.ir_core.specs.declared.constant.Const as consts
+use Rattle.ir_core.specs.declared.constant.TypedCount.{TypedCount}
+use Rattle.ir_core.specs.declared.op.LocalId.{LocalId}
+use Rattle.ir_core.specs.declared.op.Operand.{Operand}
+use Rattle.ir_core.specs.declared.op.Operand.TheVariants as operands
+use Rattle.ir_core.specs.declared.op.TypedOperand.{TypedOperand}
+use Rattle.ir_core.specs.declared.op.Op.{Op}
+use Rattle.ir_core.specs.declared.op.Op.TheVariants.{Bin, Icmp, Select, Cast, Alloca, Load, Store, Gep, Phi, Call}
+use Rattle.ir_core.specs.declared.func.Func.{Func}
+use Rattle.oi_base.specs.declared.ids.Place.{Place}
+use Rattle.ir_core.specs.Stands.{Step, Does, Ends, steps, place_of, op_operands, end_operands, operands_of}
+use Rattle.ir_core.specs.ValidConsts.{Fits, FitsType}
+use Rattle.ir_core.specs.ValidOps.{ConstFits, OperandFits, CountFits, BreaksConstants}
+use Rattle.ir_verifier.specs.First.{earliest, IsFound}
+use Rattle.ir_verifier.specs.Faults.{fits, fits_type, is_bit, is_pointer, count_fits, const_fits, value_fits, operand_fits, op_count_fits, step_fits, constant_faults}
+use Rattle.ir_verifier.proofs.Decided.{Decides, always, never, both, negated, each}
+use Rattle.ir_verifier.proofs.At.{found_at, step_places}
+
+fits_decides : (w : Width) (n : ℤ) → Decides (fits w n) (Fits w n)
+fits_decides w (pos a) = record { yes = λ e. grind (arith, nat_tests); no = λ h. grind (arith, nat_tests) }
+fits_decides w (negsuc a) = record { yes = λ e. grind (arith, nat_tests); no = λ h. grind (arith, nat_tests) }
+
+-- a type that isn't an integer
+not_integer : (t : IrType) (n : ℤ) → ((w : Width) → t ≡ Int w → ⊥) → Decides false (FitsType t n)
+not_integer t n other = never (λ (h : FitsType t n). other h.0 h.1)
+
+type_decides : (t : IrType) (n : ℤ) → Decides (fits_type t n) (FitsType t n)
+type_decides (Int w) n = record { yes = λ e. (w, refl, (fits_decides w n).yes e); no = λ h. (fits_decides w n).no (let same : h.0 ≡ w = let e : Int w ≡ Int h.0 = h.1 in cc in subst (λ v. Fits v n) same h.2) }
+type_decides Void n = not_integer Void n (λ w e. cc)
+type_decides Ptr n = not_integer Ptr n (λ w e. cc)
+type_decides (Array' k m ts) n = not_integer (Array' k m ts) n (λ w e. cc)
+type_decides (Struct' m ts) n = not_integer (Struct' m ts) n (λ w e. cc)
+type_decides (Named x) n = not_integer (Named x) n (λ w e. cc)
+
+count_decides : (n : TypedCount) → Decides (count_fits n) (FitsType n.ty n.count)
+count_decides n = type_decides n.ty n.count
+
+bit_decides : (t : IrType) → Decides (is_bit t) (t ≡ Int W1)
+bit_decides (Int W1) = record { yes = λ e. refl; no = λ h. refl }
+bit_decides (Int W8) = never (λ h. cc)
+bit_decides (Int W16) = never (λ h. cc)
+bit_decides (Int W32) = never (λ h. cc)
+bit_decides Void = never (λ h. cc)
+bit_decides Ptr = never (λ h. cc)
+bit_decides (Array' k m ts) = never (λ h. cc)
+bit_decides (Struct' m ts) = never (λ h. cc)
+bit_decides (Named x) = never (λ h. cc)
+
+pointer_decides : (t : IrType) → Decides (is_pointer t) (t ≡ Ptr)
+pointer_decides Ptr = record { yes = λ e. refl; no = λ h. refl }
+pointer_decides (Int w) = never (λ h. cc)
+pointer_decides Void = never (λ h. cc)
+pointer_decides (Array' k m ts) = never (λ h. cc)
+pointer_decides (Struct' m ts) = never (λ h. cc)
+pointer_decides (Named x) = never (λ h. cc)
+
+const_decides : (t : IrType) (c : Const) → Decides (const_fits t c) (ConstFits c t)
+const_decides t (consts.Int n) = type_decides t n
+const_decides t (consts.Bool b) = bit_decides t
+const_decides t consts.Null = pointer_decides t
+const_decides t (consts.Gep source s is) = each count_fits (λ (n : TypedCount). FitsType n.ty n.count) count_decides is
+const_decides t consts.Undef = always
+const_decides t consts.Poison = always
+const_decides t consts.Zero = always
+const_decides t (consts.Bytes b) = always
+const_decides t (consts.Address s) = always
+const_decides t (consts.Array' m items) = always
+const_decides t (consts.Struct' m fields) = always
+
+value_decides : (t : IrType) (v : Operand) → Decides (value_fits t v) (OperandFits (record { ty = t; value = v }))
+value_decides t (operands.Local x) = always
+value_decides t (operands.Const c) = const_decides t c
+
+operand_decides : (a : TypedOperand) → Decides (operand_fits a) (OperandFits a)
+operand_decides a = value_decides a.ty a.value
+
+count_of_decides : (p : Place) (r : Option LocalId) (op : Op) → Decides (op_count_fits op) (CountFits (Does (record { place = p; result = r; op = op })))
+count_of_decides p r (Alloca t (Some n) align) = count_decides n
+count_of_decides p r (Alloca t None align) = always
+count_of_decides p r (Bin op t a b) = always
+count_of_decides p r (Icmp c t a b) = always
+count_of_decides p r (Select c a b) = always
+count_of_decides p r (Cast c a t) = always
+count_of_decides p r (Load t a align) = always
+count_of_decides p r (Store a q align) = always
+count_of_decides p r (Gep t a is) = always
+count_of_decides p r (Phi t es) = always
+count_of_decides p r (Call t g as') = always
+
+step_decides : (s : Step) → Decides (step_fits s) (All OperandFits (operands_of s) × CountFits s)
+step_decides (Does i) = both (list_all operand_fits (op_operands i.op)) (op_count_fits i.op) (each operand_fits OperandFits operand_decides (op_operands i.op)) (count_of_decides i.place i.result i.op)
+step_decides (Ends b) = let e = each operand_fits OperandFits operand_decides (end_operands b.end) in record { yes = λ t. (e.yes t, tt); no = λ h. e.no h.0 }
+
+module _ (f : Func) where
+  abbrev IsBad : Step → Type 0
+  IsBad s = All OperandFits (operands_of s) × CountFits s → ⊥
+
+  bad_decides : (s : Step) → Decides (not (step_fits s)) (IsBad s)
+  bad_decides s = negated (step_fits s) (step_decides s)
+
+  pub constants_found : IsFound (BreaksConstants f) (earliest None (constant_faults f))
+  constants_found =
+      subst (λ (ps : List Place). IsFound (BreaksConstants f) (earliest None ps)) (sym (step_places (λ (s : Step). not (step_fits s)) f.blocks))
+      (found_at (λ (s : Step). not (step_fits s)) place_of IsBad (λ s. (bad_decides s).yes) (λ s. (bad_decides s).no) (steps f))

@@ -1,0 +1,15 @@
+pub mod Folds
+pub mod Earliest
+pub mod Faulty
+pub mod Decided
+pub mod At
+mod EntryLaws
+mod ConstantLaws
+mod CaseWords
+mod CaseLaws
+mod PositionLaws
+mod ReferenceLaws
+mod PlainOperands
+mod ReferencesFound
+mod NameLaws
+mod Listing

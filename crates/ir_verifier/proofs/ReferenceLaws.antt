@@ -1,0 +1,244 @@
+-- The places at which the rule of references is broken.
+use Rattle.std.proofs.Common.{◌≡◌, ◌⊎◌, inl, inr, refl, sym, ap, ◌∙◌, subst, Bool, true, false, not, ◌&&◌, ◌||◌, if◌then◌else◌, nat_eq, ℕ, List, [], ◌∷◌, ◌++◌, map, Option, Some, None, Contains, arith}
+use Rattle.std.specs.List.{flat_map, list_any, list_all}
+use Rattle.std.proofs.lemmas.Bool.Decides.{nat_tests}
+use Rattle.oi_base.specs.declared.ids.Place.{Place}
+use Rattle.ir_core.specs.declared.module.SymId.{SymId}
+use Rattle.ir_core.specs.declared.module.Module.{Module}
+use Rattle.ir_core.specs.declared.constant.Const.{Const}
+use Rattle.ir_core.specs.declared.constant.Const as consts
+use Rattle.ir_core.specs.declared.op.LocalId.{LocalId}
+use Rattle.ir_core.specs.declared.op.Operand.{Operand}
+use Rattle.ir_core.specs.declared.op.Operand.TheVariants as operands
+use Rattle.ir_core.specs.declared.op.TypedOperand.{TypedOperand}
+use Rattle.ir_core.specs.declared.op.Op.{Op}
+use Rattle.ir_core.specs.declared.func.Block.{Block}
+use Rattle.ir_core.specs.declared.func.Func.{Func}
+use Rattle.ir_core.specs.Proper.{IsValue}
+use Rattle.ir_core.specs.Parts.{instrs, const_symbols}
+use Rattle.ir_core.specs.Stands.{Step, operands_of, labels_of}
+use Rattle.ir_core.specs.ValidConsts.{IsVariable}
+use Rattle.ir_core.specs.ValidFunc.{IsParam, IsRegister, IsLabel, IsKnown, RefersWrongly}
+use Rattle.ir_core.proofs.Lists.{Has, has_left, has_right, has_part, contains}
+use Rattle.ir_verifier.specs.Faults.{with_number, with_numbers, numbers_of, param_number, result_number, block_results, value_numbers, label_number, label_numbers, global_number, global_numbers, scope_of, is_known_const, is_known_value, is_known, is_label}
+use Rattle.ir_verifier.proofs.Decided.{Decides, never, some_fails, passes, false_is_not_true}
+use Rattle.ir_verifier.proofs.Faulty.{has, has_in}
+
+-- ---- a number in a set
+
+-- what stands in a set of numbers
+pub number_decides : (n : ℕ) (ns : List ℕ) → Decides (list_any (nat_eq n) ns) (Has ns n)
+number_decides n [] = never (λ h. h)
+number_decides n (m ∷ ms) = by_test (nat_eq n m) refl (number_decides n ms)
+  where
+    by_test : (t : Bool) → nat_eq n m ≡ t → Decides (list_any (nat_eq n) ms) (Has ms n) → Decides (t || list_any (nat_eq n) ms) (Has (m ∷ ms) n)
+    by_test true t d = record { yes = λ e. inl (let same : m ≡ n = grind (arith, nat_tests) in same); no = λ h. refl }
+    by_test false t d = record { yes = λ e. inr (d.yes e); no = of_has }
+      where
+        of_has : (m ≡ n) ⊎ Has ms n → list_any (nat_eq n) ms ≡ true
+        of_has (inl same) = absurd (grind (arith, nat_tests))
+        of_has (inr h) = d.no h
+
+with_one : (ns : List ℕ) (m n : ℕ) → Has (with_number ns m) n → Has ns n ⊎ (m ≡ n)
+with_one ns m n h = by_test (list_any (nat_eq m) ns) h
+  where
+    last : Has ns n ⊎ Has (m ∷ []) n → Has ns n ⊎ (m ≡ n)
+    last (inl g) = inl g
+    last (inr (inl e)) = inr e
+    last (inr (inr g)) = absurd g
+
+    by_test : (t : Bool) → Has (if t then ns else ns ++ m ∷ []) n → Has ns n ⊎ (m ≡ n)
+    by_test true g = inl g
+    by_test false g = last (has_in ns (m ∷ []) n g)
+
+one_with : (ns : List ℕ) (m n : ℕ) → Has ns n ⊎ (m ≡ n) → Has (with_number ns m) n
+one_with ns m n h = by_test (list_any (nat_eq m) ns) refl h
+  where
+    by_test : (t : Bool) → list_any (nat_eq m) ns ≡ t → Has ns n ⊎ (m ≡ n) → Has (if t then ns else ns ++ m ∷ []) n
+    by_test true t (inl g) = g
+    by_test true t (inr e) = subst (Has ns) e ((number_decides m ns).yes t)
+    by_test false t (inl g) = has_left ns (m ∷ []) n g
+    by_test false t (inr e) = has_right ns (m ∷ []) n (inl e)
+
+pub in_numbers : (more ns : List ℕ) (n : ℕ) → Has (with_numbers ns more) n → Has ns n ⊎ Has more n
+in_numbers [] ns n h = inl h
+in_numbers (m ∷ ms) ns n h = joined (in_numbers ms (with_number ns m) n h)
+  where
+    first : Has ns n ⊎ (m ≡ n) → Has ns n ⊎ Has (m ∷ ms) n
+    first (inl g) = inl g
+    first (inr e) = inr (inl e)
+
+    joined : Has (with_number ns m) n ⊎ Has ms n → Has ns n ⊎ Has (m ∷ ms) n
+    joined (inl g) = first (with_one ns m n g)
+    joined (inr g) = inr (inr g)
+
+pub numbers_in : (more ns : List ℕ) (n : ℕ) → Has ns n ⊎ Has more n → Has (with_numbers ns more) n
+numbers_in [] ns n (inl h) = h
+numbers_in [] ns n (inr h) = absurd h
+numbers_in (m ∷ ms) ns n h = numbers_in ms (with_number ns m) n (split h)
+  where
+    split : Has ns n ⊎ Has (m ∷ ms) n → Has (with_number ns m) n ⊎ Has ms n
+    split (inl g) = inl (one_with ns m n (inl g))
+    split (inr (inl e)) = inl (one_with ns m n (inr e))
+    split (inr (inr g)) = inr g
+
+-- a mapped list
+pub has_mapped : {A : Type 0} (key : A → ℕ) (xs : List A) (n : ℕ) → Has (map key xs) n → (x : A) × Has xs x × (key x ≡ n)
+has_mapped key [] n h = absurd h
+has_mapped key (x ∷ xs) n (inl e) = (x, inl refl, e)
+has_mapped key (x ∷ xs) n (inr h) = let r = has_mapped key xs n h in (r.0, inr r.1, r.2)
+
+pub mapped_has : {A : Type 0} (key : A → ℕ) (xs : List A) (x : A) → Has xs x → Has (map key xs) (key x)
+mapped_has key [] x h = absurd h
+mapped_has key (y ∷ ys) x (inl e) = inl (ap key e)
+mapped_has key (y ∷ ys) x (inr h) = inr (mapped_has key ys x h)
+
+-- an element that made a part
+pub has_made : {A B : Type 0} (g : A → List B) (xs : List A) (y : B) → Has (flat_map g xs) y → (x : A) × Has xs x × Has (g x) y
+has_made g [] y h = absurd h
+has_made {A} {B} g (x ∷ xs) y h = by_part (has_in (g x) (flat_map g xs) y h) (has_made g xs y)
+  where
+    by_part : Has (g x) y ⊎ Has (flat_map g xs) y → (Has (flat_map g xs) y → (z : A) × Has xs z × Has (g z) y) → (z : A) × Has (x ∷ xs) z × Has (g z) y
+    by_part (inl e) rest = (x, inl refl, e)
+    by_part (inr e) rest = let r = rest e in (r.0, inr r.1, r.2)
+
+-- ---- values, labels and global variables
+
+local_of : (x y : LocalId) → x.0 ≡ y.0 → x ≡ y
+local_of x y e = ap (λ (n : ℕ). record { 0 = n }) e
+
+symbol_of : (x y : SymId) → x.0 ≡ y.0 → x ≡ y
+symbol_of x y e = ap (λ (n : ℕ). record { 0 = n }) e
+
+-- an instruction whose result has the number
+result_has : (p : Place) (r : Option LocalId) (op : Op) (n : ℕ) → Has (result_number (record { place = p; result = r; op = op })) n → (x : LocalId) × (r ≡ Some x) × (x.0 ≡ n)
+result_has p None op n h = absurd h
+result_has p (Some x) op n (inl e) = (x, refl, e)
+result_has p (Some x) op n (inr h) = absurd h
+
+has_result : (p : Place) (r : Option LocalId) (op : Op) (x : LocalId) → r ≡ Some x → Has (result_number (record { place = p; result = r; op = op })) x.0
+has_result p None op x e = absurd (let clash : None ≡ Some x = e in cc)
+has_result p (Some y) op x e = inl (let same : y ≡ x = cc in ap (λ (z : LocalId). z.0) same)
+
+-- a value that is no aggregate
+abbrev pub IsPlain : Operand → Type 0
+IsPlain (operands.Local x) = Unit {0}
+IsPlain (operands.Const c) = IsValue c
+
+module _ (m : Module) (f : Func) where
+  label_decides : (x : LocalId) → Decides (is_label (scope_of m f) x) (IsLabel f x)
+  label_decides x = record { yes = λ e. of_number (in_numbers (map label_number f.blocks) [] x.0 (d.yes e)); no = λ b. d.no (to_number b) }
+    where
+      d : Decides (list_any (nat_eq x.0) (label_numbers f)) (Has (label_numbers f) x.0)
+      d = number_decides x.0 (label_numbers f)
+
+      of_number : Has [] x.0 ⊎ Has (map label_number f.blocks) x.0 → IsLabel f x
+      of_number (inl h) = absurd h
+      of_number (inr h) = let r = has_mapped label_number f.blocks x.0 h in (r.0, contains f.blocks r.0 r.1, local_of r.0.label x r.2)
+
+      to_number : IsLabel f x → Has (label_numbers f) x.0
+      to_number b = numbers_in (map label_number f.blocks) [] x.0 (inr (subst (λ (y : LocalId). Has (map label_number f.blocks) y.0) b.2 (mapped_has label_number f.blocks b.0 (has f.blocks b.0 b.1))))
+
+  variable_decides : (x : SymId) → Decides (list_any (nat_eq x.0) (global_numbers m)) (IsVariable m x)
+  variable_decides x = record { yes = λ e. of_number (in_numbers (map global_number m.globals) [] x.0 (d.yes e)); no = λ b. d.no (to_number b) }
+    where
+      d : Decides (list_any (nat_eq x.0) (global_numbers m)) (Has (global_numbers m) x.0)
+      d = number_decides x.0 (global_numbers m)
+
+      of_number : Has [] x.0 ⊎ Has (map global_number m.globals) x.0 → IsVariable m x
+      of_number (inl h) = absurd h
+      of_number (inr h) = let r = has_mapped global_number m.globals x.0 h in (r.0, contains m.globals r.0 r.1, symbol_of r.0.name x r.2)
+
+      to_number : IsVariable m x → Has (global_numbers m) x.0
+      to_number b = numbers_in (map global_number m.globals) [] x.0 (inr (subst (λ (y : SymId). Has (map global_number m.globals) y.0) b.2 (mapped_has global_number m.globals b.0 (has m.globals b.0 b.1))))
+
+  local_decides : (x : LocalId) → Decides (list_any (nat_eq x.0) (value_numbers f)) (IsParam f x ⊎ IsRegister f x)
+  local_decides x = record { yes = λ e. of_all (in_numbers (flat_map block_results f.blocks) (numbers_of (map param_number f.params)) x.0 (d.yes e)); no = λ k. d.no (to_number k) }
+    where
+      d : Decides (list_any (nat_eq x.0) (value_numbers f)) (Has (value_numbers f) x.0)
+      d = number_decides x.0 (value_numbers f)
+
+      of_param : Has [] x.0 ⊎ Has (map param_number f.params) x.0 → IsParam f x
+      of_param (inl h) = absurd h
+      of_param (inr h) = let r = has_mapped param_number f.params x.0 h in (r.0, contains f.params r.0 r.1, local_of r.0.name x r.2)
+
+      of_result : Has (flat_map block_results f.blocks) x.0 → IsRegister f x
+      of_result h =
+          let b = has_made block_results f.blocks x.0 h in
+          let i = has_made result_number b.0.code x.0 b.2 in
+          let r = result_has i.0.place i.0.result i.0.op x.0 i.2 in
+          (i.0, contains (instrs f) i.0 (has_part (λ (k : Block). k.code) f.blocks b.0 i.0 b.1 i.1), r.1 ∙ ap Some (local_of r.0 x r.2))
+
+      of_all : Has (numbers_of (map param_number f.params)) x.0 ⊎ Has (flat_map block_results f.blocks) x.0 → IsParam f x ⊎ IsRegister f x
+      of_all (inl h) = inl (of_param (in_numbers (map param_number f.params) [] x.0 h))
+      of_all (inr h) = inr (of_result h)
+
+      to_number : IsParam f x ⊎ IsRegister f x → Has (value_numbers f) x.0
+      to_number (inl q) =
+          numbers_in (flat_map block_results f.blocks) (numbers_of (map param_number f.params)) x.0
+          (inl (numbers_in (map param_number f.params) [] x.0 (inr (subst (λ (y : LocalId). Has (map param_number f.params) y.0) q.2 (mapped_has param_number f.params q.0 (has f.params q.0 q.1))))))
+      to_number (inr r) =
+          let b = has_made (λ (k : Block). k.code) f.blocks r.0 (has (instrs f) r.0 r.1) in
+          numbers_in (flat_map block_results f.blocks) (numbers_of (map param_number f.params)) x.0
+          (inr (has_part block_results f.blocks b.0 x.0 b.1 (has_part result_number b.0.code r.0 x.0 b.2 (has_result r.0.place r.0.result r.0.op x r.2))))
+
+  abbrev NamesKnown : Const → Type 0
+  NamesKnown c = (s : SymId) → Contains (const_symbols c) s → IsVariable m s
+
+  no_names : Decides true ((s : SymId) → Contains [] s → IsVariable m s)
+  no_names = record { yes = λ e s h. absurd (has [] s h); no = λ h. refl }
+
+  one_name : (g : SymId) → Decides (list_any (nat_eq g.0) (global_numbers m)) ((s : SymId) → Contains (g ∷ []) s → IsVariable m s)
+  one_name g = record { yes = λ e s h. of_has ((variable_decides g).yes e) s (has (g ∷ []) s h); no = λ k. (variable_decides g).no (k g (contains (g ∷ []) g (inl refl))) }
+    where
+      of_has : IsVariable m g → (s : SymId) → Has (g ∷ []) s → IsVariable m s
+      of_has v s (inl e) = subst (IsVariable m) e v
+      of_has v s (inr h) = absurd h
+
+  const_decides : (c : Const) → IsValue c → Decides (is_known_const (scope_of m f) c) (NamesKnown c)
+  const_decides (consts.Int n) v = no_names
+  const_decides (consts.Bool b) v = no_names
+  const_decides consts.Null v = no_names
+  const_decides consts.Undef v = no_names
+  const_decides consts.Poison v = no_names
+  const_decides consts.Zero v = absurd v
+  const_decides (consts.Bytes b) v = absurd v
+  const_decides (consts.Address g) v = one_name g
+  const_decides (consts.Gep t g is) v = one_name g
+  const_decides (consts.Array' k items) v = absurd v
+  const_decides (consts.Struct' k fields) v = absurd v
+
+  value_decides : (v : Operand) → IsPlain v → Decides (is_known_value (scope_of m f) v) (IsKnown m f v)
+  value_decides (operands.Local x) p = local_decides x
+  value_decides (operands.Const c) p = const_decides c p
+
+  module _ (s : Step) (plain : (a : TypedOperand) → Has (operands_of s) a → IsPlain a.value) (test : Bool) (same : test ≡ (list_all (is_known (scope_of m f)) (operands_of s) && list_all (is_label (scope_of m f)) (labels_of s))) where
+    wrong_value : list_all (is_known (scope_of m f)) (operands_of s) ≡ false → RefersWrongly m f s
+    wrong_value e =
+        let r = some_fails (is_known (scope_of m f)) (operands_of s) e in
+        inl (r.0, contains (operands_of s) r.0 r.1, λ k. false_is_not_true (sym r.2 ∙ (value_decides r.0.value (plain r.0 r.1)).no k))
+
+    wrong_label : list_all (is_label (scope_of m f)) (labels_of s) ≡ false → RefersWrongly m f s
+    wrong_label e =
+        let r = some_fails (is_label (scope_of m f)) (labels_of s) e in
+        inr (r.0, contains (labels_of s) r.0 r.1, λ k. false_is_not_true (sym r.2 ∙ (label_decides r.0).no k))
+
+    pub wrong : not test ≡ true → RefersWrongly m f s
+    wrong e = by_tests (list_all (is_known (scope_of m f)) (operands_of s)) (list_all (is_label (scope_of m f)) (labels_of s)) refl refl (subst (λ (t : Bool). not t ≡ true) same e)
+      where
+        by_tests : (u v : Bool) → list_all (is_known (scope_of m f)) (operands_of s) ≡ u → list_all (is_label (scope_of m f)) (labels_of s) ≡ v → not (u && v) ≡ true → RefersWrongly m f s
+        by_tests false v a b g = wrong_value a
+        by_tests true false a b g = wrong_label b
+        by_tests true true a b g = absurd (false_is_not_true g)
+
+    pub right : RefersWrongly m f s → not test ≡ true
+    right w = subst (λ (t : Bool). not t ≡ true) (sym same) (by_tests (list_all (is_known (scope_of m f)) (operands_of s)) (list_all (is_label (scope_of m f)) (labels_of s)) refl refl w)
+      where
+        by_tests : (u v : Bool) → list_all (is_known (scope_of m f)) (operands_of s) ≡ u → list_all (is_label (scope_of m f)) (labels_of s) ≡ v → RefersWrongly m f s → not (u && v) ≡ true
+        by_tests false v a b g = refl
+        by_tests true false a b g = refl
+        by_tests true true a b (inl g) =
+            let h = has (operands_of s) g.0 g.1 in
+            absurd (g.2 ((value_decides g.0.value (plain g.0 h)).yes (passes (is_known (scope_of m f)) (operands_of s) g.0 a h)))
+        by_tests true true a b (inr g) =
+            absurd (g.2 ((label_decides g.0).yes (passes (is_label (scope_of m f)) (labels_of s) g.0 b (has (labels_of s) g.0 g.1))))

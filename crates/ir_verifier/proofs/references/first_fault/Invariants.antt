@@ -1,0 +1,10 @@
+use Rattle.std.proofs.Common.{◌≡◌, drop, None, not}
+use Rattle.std.specs.List.{flat_map}
+use Rattle.ir_core.specs.Stands.{Step}
+use Rattle.ir_verifier.specs.First.{earliest}
+use Rattle.ir_verifier.specs.Faults.{block_faults, step_is_known, reference_faults}
+use Rattle.ir_verifier.proofs.references.first_fault.Given as goal
+
+abbrev pub invariant-loop-block : goal.invariant-loop-block
+invariant-loop-block l =
+    earliest l.first (flat_map (block_faults (λ (s : Step). not (step_is_known l.scope s))) (drop l.block-index l.f.blocks)) ≡ earliest None (reference_faults l.scope l.f)

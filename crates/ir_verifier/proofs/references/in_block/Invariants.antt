@@ -1,0 +1,12 @@
+use Rattle.std.proofs.Common.{◌≡◌, drop, not, ◌++◌}
+use Rattle.std.specs.List.{flat_map}
+use Rattle.ir_core.specs.declared.func.Instr.{Instr}
+use Rattle.ir_core.specs.Stands.{Step}
+use Rattle.ir_verifier.specs.First.{earliest}
+use Rattle.ir_verifier.specs.Faults.{place_if, block_faults, op_is_known, end_is_known, step_is_known}
+use Rattle.ir_verifier.proofs.references.in_block.Given as goal
+
+abbrev pub invariant-loop-instr : goal.invariant-loop-instr
+invariant-loop-instr l =
+    earliest l.first (flat_map (λ (i : Instr). place_if (not (op_is_known l.scope i.op)) i.place) (drop l.instr-index l.block.code) ++ place_if (not (end_is_known l.scope l.block.end)) l.block.end_place)
+    ≡ earliest l.fn.before (block_faults (λ (s : Step). not (step_is_known l.scope s)) l.block)

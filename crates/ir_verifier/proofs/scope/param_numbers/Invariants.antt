@@ -1,0 +1,6 @@
+use Rattle.std.proofs.Common.{◌≡◌, drop, map}
+use Rattle.ir_verifier.specs.Faults.{with_numbers, numbers_of, param_number}
+use Rattle.ir_verifier.proofs.scope.param_numbers.Given as goal
+
+abbrev pub invariant-loop-param : goal.invariant-loop-param
+invariant-loop-param l = with_numbers l.numbers (map param_number (drop l.param-index l.params)) ≡ numbers_of (map param_number l.params)

@@ -1,0 +1,15 @@
+//! The verifier: which rule of the accepted IR a module breaks first, and where (docs/RULES.md).
+#![tactic(auto)]
+
+mod cases;
+mod constants;
+mod entry;
+mod first;
+mod has_main;
+mod names;
+mod numbers;
+mod positions;
+mod references;
+mod scope;
+#[cfg(test)]
+mod tests;

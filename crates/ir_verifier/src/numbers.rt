@@ -1,0 +1,47 @@
+ghost use Rattle.std.specs.Prelude.{◌≡◌, [], not, nat_eq, IfOk, OnOk};
+ghost use Rattle.std.specs.List.{list_any};
+ghost use Rattle.ir_verifier.specs.Faults.{with_number};
+
+use indexmap::IndexSet;
+use oi_base::NoMemory;
+use std::alloc::Global;
+use std::marker::Model;
+
+/// A set of numbers. Contracts see it as the list of them, in the order in which they were added.
+#[derive(Drop)]
+pub struct Numbers {
+    set: IndexSet<u32>,
+}
+
+impl Model for Numbers {
+    ghost use Rattle.std.specs.Prelude.{ℕ, List};
+
+    ghost Value = { List ℕ };
+
+    ghost view = { λ n. n.set.keys };
+}
+
+impl Numbers {
+    pub fn new(alloc: Global) -> Numbers
+        ensures { result ≡ [] }
+    {
+        Numbers {
+            set: IndexSet::new(alloc),
+        }
+    }
+
+    /// Whether a number is in the set.
+    pub fn has(&self, n: u32) -> bool
+        ensures { result ≡ list_any (nat_eq n) self.now }
+    {
+        self.set.contains(&n)
+    }
+
+    /// Adds a number, and tells whether it was new.
+    pub fn add(&mut self, n: u32) -> Result<bool, NoMemory>
+        ensures added { IfOk result (λ new. new ≡ not (list_any (nat_eq n) self.old)) }
+        ensures numbers { OnOk result (self.new ≡ with_number self.old n) }
+    {
+        Ok(self.set.insert(n)?)
+    }
+}
