@@ -15,3 +15,4 @@ pub mod Start
 pub mod Stores
 pub mod Turning
 pub mod Whole
+pub mod Words

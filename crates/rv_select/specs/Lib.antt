@@ -1,3 +1,6 @@
+pub mod Code
+pub mod Drafts
+pub mod Lowered
 pub mod Parts
 pub mod Stands
 pub mod Sums
