@@ -1,6 +1,7 @@
 pub mod BinRow
 pub mod Entry
 pub mod Halves
+pub mod HeadPlaces
 pub mod Items
 pub mod Loads
 pub mod Moving

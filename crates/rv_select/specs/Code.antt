@@ -7,7 +7,6 @@ use Rattle.rv_select.specs.declared.item.Item.{Item}
 use Rattle.rv_select.specs.declared.item.Draft.{Draft}
 use Rattle.rv_select.specs.declared.faults.Cause.{Cause}
 use Rattle.rv_select.specs.declared.faults.Cause.TheVariants.{Weight, Frame, Code}
-use Rattle.rv_select.specs.declared.faults.NoSize.{NoSize}
 use Rattle.rv_select.specs.declared.faults.SelectFault.{SelectFault}
 use Rattle.rv_select.specs.declared.faults.SelectFault.TheVariants as fault
 use Rattle.rv_select.specs.Drafts.{items_from}
@@ -32,15 +31,12 @@ code b = code_with (frame_of b) b
 abbrev pub code_bytes : FlatBody → ℕ
 code_bytes b = 4 * length (code b)
 
--- a body has no size: its frame is too large, or its code is; a number that no `u64` holds is told as the greatest
-abbrev pub HasNoSize : FlatBody → NoSize → Type 0
-HasNoSize b n = of_cause n.cause
-  where
-    of_cause : Cause → Type 0
-    of_cause Weight = ⊥
-    of_cause Frame = (65536 < frame b) × (n.number ≡ frame b)
-    of_cause Code = (frame b ≤ 65536) × (1000000 < code_bytes b) × (n.number ≡ min (code_bytes b) 18446744073709551615)
+-- a body has no size for this cause: its frame is too large, or else its code is; a number that no `u64` holds is told as the greatest
+abbrev pub IsTooMuch : FlatBody → ℕ → Cause → Type 0
+IsTooMuch b number Weight = ⊥
+IsTooMuch b number Frame = (65536 < frame b) × (number ≡ frame b)
+IsTooMuch b number Code = (frame b ≤ 65536) × (1000000 < code_bytes b) × (number ≡ min (code_bytes b) 18446744073709551615)
 
 abbrev pub IsRefused : FlatBody → SelectFault → Type 0
-IsRefused b (fault.NoSize n) = HasNoSize b n
+IsRefused b (fault.NoSize n) = IsTooMuch b n.number n.cause
 IsRefused b fault.NoMemory = Unit {0}

@@ -1,5 +1,6 @@
 pub mod Code
 pub mod Drafts
+pub mod Heads
 pub mod Lowered
 pub mod Parts
 pub mod Stands

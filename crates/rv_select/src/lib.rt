@@ -10,8 +10,10 @@ mod instrs;
 mod item;
 mod laws;
 mod pieces;
+mod selecting;
 
 pub use code::Code;
 pub use faults::{Cause, NoSize, SelectFault};
 pub use item::Item;
 pub use laws::sums_are_refined;
+pub use selecting::select;
