@@ -2,6 +2,7 @@ pub mod BinRow
 pub mod Carried
 pub mod Entry
 pub mod Halves
+pub mod HeadPlaces
 pub mod Items
 pub mod Loads
 pub mod Moving
@@ -17,3 +18,4 @@ pub mod Stores
 pub mod Texts
 pub mod Turning
 pub mod Whole
+pub mod Words

@@ -2,6 +2,18 @@
 //! a run, and the law that an object so made does what its program does.
 #![tactic(auto)]
 
+mod code;
+mod drafter;
+mod ends;
+mod faults;
+mod instrs;
+mod item;
 mod laws;
+mod pieces;
+mod selecting;
 
+pub use code::Code;
+pub use faults::{Cause, NoSize, SelectFault};
+pub use item::Item;
 pub use laws::{sums_are_carried_out, sums_are_refined};
+pub use selecting::select;

@@ -1,0 +1,28 @@
+-- Where blocks begin in a code under way.
+use Rattle.std.specs.Prelude.{◌≡◌, ℕ, ◌+◌, ◌*◌, ◌<◌, min, All, List, [], ◌∷◌, length, slice_index_or}
+use Rattle.ir_core.specs.declared.flat.FlatBlock.{FlatBlock}
+use Rattle.frame_layout.specs.Offsets.{Offsets}
+use Rattle.rv_select.specs.declared.faults.Cause.{Cause}
+use Rattle.rv_select.specs.declared.faults.Cause.TheVariants.{Weight, Frame, Code}
+use Rattle.rv_select.specs.declared.faults.NoSize.{NoSize}
+use Rattle.rv_select.specs.declared.faults.SelectFault.{SelectFault}
+use Rattle.rv_select.specs.declared.faults.SelectFault.TheVariants as fault
+use Rattle.rv_select.specs.Lowered.{block, HasFewArguments}
+
+-- each call of a block has at most eight arguments
+abbrev pub HasFewIn : FlatBlock → Type 0
+HasFewIn k = All HasFewArguments k.code
+
+-- at which item each block from number n on begins, where the first begins at this one
+abbrev pub heads_from : Offsets → List FlatBlock → ℕ → ℕ → List FlatBlock → List ℕ
+heads_from f blocks n at [] = []
+heads_from f blocks n at (k ∷ ks) = at ∷ heads_from f blocks (n + 1) (at + length (block f blocks n k)) ks
+
+-- where a block begins, in bytes; a block that is not there begins at the end
+abbrev pub place_in : List ℕ → ℕ → ℕ → ℕ
+place_in heads end b = 4 * slice_index_or heads b end
+
+-- a code of so many bytes is refused since it is too long; a number that no `u64` holds is told as the greatest
+abbrev pub IsTooLong : ℕ → SelectFault → Type 0
+IsTooLong bytes (fault.NoSize n) = (n.cause ≡ Code) × (1000000 < bytes) × (n.number ≡ min bytes 18446744073709551615)
+IsTooLong bytes fault.NoMemory = Unit {0}

@@ -1,0 +1,241 @@
+ghost use Rattle.std.specs.Prelude.{◌≡◌, ◌++◌, ◌∷◌, [], ℕ, map, OnOk, IfOk};
+ghost use Rattle.std.specs.List.{flat_map};
+ghost use Rattle.ir_core.specs.Flat.{entry_for};
+ghost use Rattle.ir_core.specs.Formed.{targets};
+ghost use Rattle.frame_layout.specs.Offsets.{shadow_of};
+ghost use Rattle.rv_select.specs.Drafts.{words, jump_to};
+ghost use Rattle.rv_select.specs.Parts.{t0};
+ghost use Rattle.rv_select.specs.Lowered.{load_from, store_to, take_phi, head, load_entry, give_phi, phis_of, give_phis, numbers, is_in, distinct_from, successors, before_end, jump, case_code, load_value, end_code};
+
+use crate::drafter::Drafter;
+use crate::instrs::{push_load, push_store};
+use crate::pieces::{push_epilogue, push_load_slot, push_store_slot, push_word};
+use frame_layout::Frame;
+use ir_core::{Case, Entry, FlatBlock, FlatEnd, FlatOp, Phi};
+use oi_base::{BlockId, NoMemory};
+use rv_isa::{Rv, X};
+use std::alloc::Global;
+
+/// Appends what takes each phi's next value out of its shadow.
+pub fn push_head(code: &mut Drafter, f: &Frame, phis: &[Phi]) -> Result<(), NoMemory>
+    ensures { OnOk result (code.new ≡ code.old ++ head f.now phis.now) }
+{
+    for phi in phis {
+        push_take_phi(code, f, phi)?;
+    }
+    Ok(())
+}
+
+fn push_take_phi(code: &mut Drafter, f: &Frame, phi: &Phi) -> Result<(), NoMemory>
+    ensures { OnOk result (code.new ≡ code.old ++ take_phi f.now phi.now) }
+{
+    push_load_from(code, f.shadow(phi.reg))?;
+    push_store(code, f, X::T0, phi.reg)
+}
+
+fn push_load_from(code: &mut Drafter, offset: Option<u32>) -> Result<(), NoMemory>
+    ensures { OnOk result (code.new ≡ code.old ++ load_from t0 offset) }
+{
+    match offset {
+        Some(offset) => push_load_slot(code, X::T0, offset),
+        None => Ok(()),
+    }
+}
+
+fn push_store_to(code: &mut Drafter, offset: Option<u32>) -> Result<(), NoMemory>
+    ensures { OnOk result (code.new ≡ code.old ++ store_to t0 offset) }
+{
+    match offset {
+        Some(offset) => push_store_slot(code, X::T0, offset),
+        None => Ok(()),
+    }
+}
+
+/// The operand that a phi has for a block.
+fn entry_for(entries: &[Entry], n: usize) -> Option<FlatOp>
+    ensures { result ≡ entry_for n entries.now }
+{
+    for entry in entries {
+        if entry.from.0 as usize == n {
+            return Some(entry.value);
+        }
+    }
+    None
+}
+
+/// Appends what puts a phi's next value behind block `n` into its shadow.
+fn push_give_phi(code: &mut Drafter, f: &Frame, n: usize, phi: &Phi) -> Result<(), NoMemory>
+    ensures { OnOk result (code.new ≡ code.old ++ give_phi f.now n phi.now) }
+{
+    if let Some(o) = entry_for(phi.entries.as_slice(), n) {
+        push_load(code, f, X::T0, o)?;
+    }
+    push_store_to(code, f.shadow(phi.reg))
+}
+
+fn push_give_phis(code: &mut Drafter, f: &Frame, n: usize, phis: &[Phi]) -> Result<(), NoMemory>
+    ensures { OnOk result (code.new ≡ code.old ++ flat_map (give_phi f.now n) phis.now) }
+{
+    for phi in phis {
+        push_give_phi(code, f, n, phi)?;
+    }
+    Ok(())
+}
+
+/// The blocks that an end leads to: of a switch the cases' in order, and then the default.
+fn targets(alloc: Global, end: &FlatEnd) -> Result<Vec<BlockId>, NoMemory>
+    ensures { IfOk result (λ ts. numbers ts.items ≡ targets end.now) }
+{
+    match end {
+        FlatEnd::Br(to) => one_target(alloc, *to),
+        FlatEnd::Cond(_, yes, no) => two_targets(alloc, *yes, *no),
+        FlatEnd::Switch(_, _, cases, other) => case_targets(alloc, cases.as_slice(), *other),
+        FlatEnd::Ret(_) | FlatEnd::Unreachable => Ok(Vec::new(alloc)),
+    }
+}
+
+fn one_target(alloc: Global, to: BlockId) -> Result<Vec<BlockId>, NoMemory>
+    ensures { IfOk result (λ ts. numbers ts.items ≡ to.0 ∷ []) }
+{
+    let mut targets = Vec::new(alloc);
+    targets.push(to)?;
+    Ok(targets)
+}
+
+fn two_targets(alloc: Global, yes: BlockId, no: BlockId) -> Result<Vec<BlockId>, NoMemory>
+    ensures { IfOk result (λ ts. numbers ts.items ≡ yes.0 ∷ no.0 ∷ []) }
+{
+    let mut targets = one_target(alloc, yes)?;
+    targets.push(no)?;
+    Ok(targets)
+}
+
+fn case_targets(alloc: Global, cases: &[Case], other: BlockId) -> Result<Vec<BlockId>, NoMemory>
+    ensures { IfOk result (λ ts. numbers ts.items ≡ map (λ c. c.to.0) cases.now ++ other.0 ∷ []) }
+{
+    let mut targets = Vec::new(alloc);
+    for case in cases {
+        targets.push(case.to)?;
+    }
+    targets.push(other)?;
+    Ok(targets)
+}
+
+/// The blocks that an end leads to, each once, in the order in which they first come.
+fn successors(alloc: Global, end: &FlatEnd) -> Result<Vec<BlockId>, NoMemory>
+    ensures { IfOk result (λ ts. numbers ts.items ≡ successors end.now) }
+{
+    let targets = targets(alloc, end)?;
+    let mut seen = Vec::new(alloc);
+    for to in &targets {
+        if !is_in(&seen, *to) {
+            seen.push(*to)?;
+        }
+    }
+    Ok(seen)
+}
+
+fn is_in(seen: &[BlockId], to: BlockId) -> bool
+    ensures { result ≡ is_in (numbers seen.now) to.0 }
+{
+    for block in seen {
+        if *block == to {
+            return true;
+        }
+    }
+    false
+}
+
+/// Appends what gives the phis of each successor their next values.
+pub fn push_before_end(
+    alloc: Global,
+    code: &mut Drafter,
+    f: &Frame,
+    blocks: &[FlatBlock],
+    n: usize,
+    end: &FlatEnd,
+) -> Result<(), NoMemory>
+    ensures { OnOk result (code.new ≡ code.old ++ before_end f.now blocks.now n end.now) }
+{
+    let successors = successors(alloc, end)?;
+    for to in &successors {
+        push_give_to(code, f, blocks, n, *to)?;
+    }
+    Ok(())
+}
+
+fn push_give_to(
+    code: &mut Drafter,
+    f: &Frame,
+    blocks: &[FlatBlock],
+    n: usize,
+    to: BlockId,
+) -> Result<(), NoMemory>
+    ensures { OnOk result (code.new ≡ code.old ++ give_phis f.now blocks.now n to.0) }
+{
+    match blocks.get(to.0 as usize) {
+        Some(block) => push_give_phis(code, f, n, block.phis.as_slice()),
+        None => Ok(()),
+    }
+}
+
+/// Appends a jump to a block, unless it comes next behind block `n`.
+fn push_jump(code: &mut Drafter, n: usize, to: BlockId) -> Result<(), NoMemory>
+    ensures { OnOk result (code.new ≡ code.old ++ jump n to) }
+{
+    if to.0 > 0 && (to.0 - 1) as usize == n {
+        return Ok(());
+    }
+    code.jump(to)
+}
+
+fn push_case(code: &mut Drafter, case: Case) -> Result<(), NoMemory>
+    ensures { OnOk result (code.new ≡ code.old ++ case_code case) }
+{
+    push_word(code, X::T1, case.word)?;
+    code.push(Rv::Bne(X::T0, X::T1, 8))?;
+    code.jump(case.to)
+}
+
+fn push_cases(code: &mut Drafter, cases: &[Case]) -> Result<(), NoMemory>
+    ensures { OnOk result (code.new ≡ code.old ++ flat_map case_code cases.now) }
+{
+    for case in cases {
+        push_case(code, *case)?;
+    }
+    Ok(())
+}
+
+fn push_value(code: &mut Drafter, f: &Frame, value: Option<FlatOp>) -> Result<(), NoMemory>
+    ensures { OnOk result (code.new ≡ code.old ++ load_value f.now value) }
+{
+    match value {
+        Some(o) => push_load(code, f, X::A0, o),
+        None => Ok(()),
+    }
+}
+
+/// Appends the row of the end of block `n`.
+pub fn push_end(code: &mut Drafter, f: &Frame, n: usize, end: &FlatEnd) -> Result<(), NoMemory>
+    ensures { OnOk result (code.new ≡ code.old ++ end_code f.now n end.now) }
+{
+    match end {
+        FlatEnd::Ret(value) => {
+            push_value(code, f, *value)?;
+            push_epilogue(code, f.bytes())
+        }
+        FlatEnd::Br(to) => push_jump(code, n, *to),
+        FlatEnd::Cond(c, yes, no) => {
+            push_load(code, f, X::T0, *c)?;
+            code.push(Rv::Beq(X::T0, X::ZERO, 8))?;
+            code.jump(*yes)?;
+            push_jump(code, n, *no)
+        }
+        FlatEnd::Switch(value, _, cases, other) => {
+            push_load(code, f, X::T0, *value)?;
+            push_cases(code, cases.as_slice())?;
+            push_jump(code, n, *other)
+        }
+        FlatEnd::Unreachable => code.push(Rv::Ebreak),
+    }
+}
