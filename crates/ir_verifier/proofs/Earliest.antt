@@ -15,7 +15,7 @@ up_to_itself p = grind (arith, nat_tests)
 up_to_trans : (p q r : Place) → is_up_to p q ≡ true → is_up_to q r ≡ true → is_up_to p r ≡ true
 up_to_trans p q r h g = grind (arith, nat_tests)
 
-up_to_total : (p q : Place) → is_up_to p q ≡ false → is_up_to q p ≡ true
+pub up_to_total : (p q : Place) → is_up_to p q ≡ false → is_up_to q p ≡ true
 up_to_total p q h = grind (arith, nat_tests)
 
 -- ---- the first of some places is one of them, and up to each

@@ -13,3 +13,6 @@ mod PlainOperands
 mod ReferencesFound
 mod NameLaws
 mod Listing
+mod KindLaws
+mod Distinct
+mod CallLaws

@@ -77,7 +77,7 @@ block_value b s a h g = by_kind (in_code b.code b s h)
         let here : Has (end_values b.end) a.value = subst (λ vs. Has vs a.value) (end_values_of b.end) (has_value (end_operands b.end) a (subst (λ (t : Step). Has (operands_of t) a) e g)) in
         has_right (flat_map (λ (i : Instr). op_values i.op) b.code) (end_values b.end) a.value here
 
-all_of : {A : Type 0} (P : A → Type 0) (xs : List A) (x : A) → All P xs → Has xs x → P x
+pub all_of : {A : Type 0} (P : A → Type 0) (xs : List A) (x : A) → All P xs → Has xs x → P x
 all_of P xs x all h = let c = contains xs x h in subst P c.2 (all c.0 x c.1)
 
 pub plain_operands : (f : Func) → IsProperFunc f → (s : Step) → Has (steps f) s → (a : TypedOperand) → Has (operands_of s) a → IsPlain a.value

@@ -107,7 +107,7 @@ has_made {A} {B} g (x ∷ xs) y h = by_part (has_in (g x) (flat_map g xs) y h) (
 local_of : (x y : LocalId) → x.0 ≡ y.0 → x ≡ y
 local_of x y e = ap (λ (n : ℕ). record { 0 = n }) e
 
-symbol_of : (x y : SymId) → x.0 ≡ y.0 → x ≡ y
+pub symbol_of : (x y : SymId) → x.0 ≡ y.0 → x ≡ y
 symbol_of x y e = ap (λ (n : ℕ). record { 0 = n }) e
 
 -- an instruction whose result has the number

@@ -1,5 +1,5 @@
 ghost use Rattle.std.specs.Prelude.{◌≡◌, [], not, nat_eq, IfOk, OnOk};
-ghost use Rattle.std.specs.List.{list_any};
+ghost use Rattle.std.specs.List.{list_any, position};
 ghost use Rattle.ir_verifier.specs.Faults.{with_number};
 
 use indexmap::IndexSet;
@@ -35,6 +35,13 @@ impl Numbers {
         ensures { result ≡ list_any (nat_eq n) self.now }
     {
         self.set.contains(&n)
+    }
+
+    /// Where a number stands among those of the set, if it is in it.
+    pub fn position(&self, n: u32) -> Option<usize>
+        ensures { result ≡ position (nat_eq n) self.now }
+    {
+        self.set.get_index_of(&n)
     }
 
     /// Adds a number, and tells whether it was new.

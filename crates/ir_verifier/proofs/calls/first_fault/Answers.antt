@@ -1,0 +1,7 @@
+use Rattle.ir_verifier.specs.First.{earlier}
+use Rattle.ir_verifier.specs.CallFaults.{block_call_faults}
+use Rattle.ir_verifier.proofs.Folds.{fold_step}
+use Rattle.ir_verifier.proofs.calls.first_fault.Goals as goal
+
+pub loop-block-preserved : goal.loop-block-preserved
+loop-block-preserved c = fold_step earlier (block_call_faults c.args.callees.now) _ _ _ _ _ _ _ c.in_block-first.ensures c.as_slice-block-items.ensures c.loop-block-test.true c.block-item.is c.loop-block.invariant
