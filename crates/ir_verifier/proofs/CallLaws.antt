@@ -27,7 +27,9 @@ use Rattle.ir_core.specs.ValidOps.{IsScalar, IsResultType, StepAgrees, OperandAg
 use Rattle.ir_core.proofs.Lists.{Has, has_left, has_part, contains, at_has, has_at}
 use Rattle.ir_verifier.specs.First.{earliest, IsFound}
 use Rattle.ir_verifier.specs.CallFaults.{same_kind, same_kinds, func_number, declared_number, func_numbers, declared_numbers, callee, is_word, is_void, is_one_word, is_none, is_putchar, is_getchar, is_exit, fits_external, fits_func, fits_callee, op_calls_well, call_fault, block_call_faults, call_faults}
-use Rattle.ir_verifier.proofs.Decided.{Decides, always, negated, false_is_not_true}
+use Rattle.std.specs.Bool.{Decides}
+use Rattle.std.proofs.lemmas.Bool.Decides.{Decides-not}
+use Rattle.ir_verifier.proofs.Decided.{always, false_is_not_true}
 use Rattle.ir_verifier.proofs.Faulty.{has}
 use Rattle.ir_verifier.proofs.At.{found_in}
 use Rattle.ir_verifier.proofs.PlainOperands.{all_of}
@@ -228,7 +230,7 @@ module _ (m : Module) (once : (p : Place) → BreaksSymbolTwice m p → ⊥) whe
       apart (length (introduced_globals m) + a.0) (length (introduced_globals m ++ introduced_funcs m) + b.0) (introduced_func f) (introduced_declaration d) (func_at a.0 f a.1) (declared_at b.0 d b.1) (a.2 ∙ sym same) (λ q. omega (arith, q, n, l))
 
   declared_decides : (s : SymId) → Decides (list_any (nat_eq s.0) (declared_numbers m)) ((d : Declaration) × Contains m.declared d × (d.name ≡ s))
-  declared_decides s = record { yes = λ e. of_number (in_numbers (map declared_number m.declared) [] s.0 (d.yes e)); no = λ b. d.no (to_number b) }
+  declared_decides s = (λ e. of_number (in_numbers (map declared_number m.declared) [] s.0 (d.0 e)), λ b. d.1 (to_number b))
     where
       d : Decides (list_any (nat_eq s.0) (declared_numbers m)) (Has (declared_numbers m) s.0)
       d = number_decides s.0 (declared_numbers m)
@@ -247,7 +249,7 @@ module _ (m : Module) (once : (p : Place) → BreaksSymbolTwice m p → ⊥) whe
     IsGood = IsDefinedAs m s t (types_of as') ⊎ IsDeclaredAs m s t (types_of as')
 
     defined : (f : Func) → callee m s ≡ Some f → Decides (fits_func f t as') IsGood
-    defined f e = record { yes = of_test; no = to_test }
+    defined f e = (of_test, to_test)
       where
         of_test : fits_func f t as' ≡ true → IsGood
         of_test h =
@@ -265,17 +267,17 @@ module _ (m : Module) (once : (p : Place) → BreaksSymbolTwice m p → ⊥) whe
         to_test (inr d) = absurd (not_declared s f d.0 e d.1 d.2)
 
     external : callee m s ≡ None → Decides (list_any (nat_eq s.0) (declared_numbers m) && fits_external (symbol_text m s) t as') IsGood
-    external e = record { yes = of_test; no = to_test }
+    external e = (of_test, to_test)
       where
         of_test : (list_any (nat_eq s.0) (declared_numbers m) && fits_external (symbol_text m s) t as') ≡ true → IsGood
         of_test h =
             let both = two_true (list_any (nat_eq s.0) (declared_numbers m)) (fits_external (symbol_text m s) t as') h in
-            let d = (declared_decides s).yes both.0 in
+            let d = (declared_decides s).0 both.0 in
             inr (d.0, d.1, d.2, external_of (symbol_text m s) t as' both.1)
 
         to_test : IsGood → (list_any (nat_eq s.0) (declared_numbers m) && fits_external (symbol_text m s) t as') ≡ true
         to_test (inl g) = absurd (callee_none s e g.0 g.1 g.2)
-        to_test (inr d) = let l : list_any (nat_eq s.0) (declared_numbers m) ≡ true = (declared_decides s).no (d.0, d.1, d.2) in rw l (to_external (symbol_text m s) t as' d.3)
+        to_test (inr d) = let l : list_any (nat_eq s.0) (declared_numbers m) ≡ true = (declared_decides s).1 (d.0, d.1, d.2) in rw l (to_external (symbol_text m s) t as' d.3)
 
     pub call_decides : Decides (fits_callee m (callee m s) s t as') IsGood
     call_decides = by_callee (callee m s) refl
@@ -343,7 +345,7 @@ module _ (m : Module) (f : Func) (once : (p : Place) → BreaksSymbolTwice m p �
   op_decides p r (Phi t es) right = always
 
   bad_decides : (i : Instr) → Has (instrs f) i → Decides (not (op_calls_well m i.op)) (CallsWell m i.op → ⊥)
-  bad_decides i h = negated (op_calls_well m i.op) (op_decides i.place i.result i.op (agrees i h))
+  bad_decides i h = Decides-not (op_calls_well m i.op) (op_decides i.place i.result i.op (agrees i h))
 
   in_instrs : (blocks : List Block) → flat_map (block_call_faults m) blocks ≡ flat_map (call_fault m) (flat_map (λ (b : Block). b.code) blocks)
   in_instrs [] = refl
@@ -352,4 +354,4 @@ module _ (m : Module) (f : Func) (once : (p : Place) → BreaksSymbolTwice m p �
   pub calls_found : IsFound (BreaksCalls m f) (earliest None (call_faults m f))
   calls_found =
       subst (λ (ps : List Place). IsFound (BreaksCalls m f) (earliest None ps)) (sym (in_instrs f.blocks))
-      (found_in (λ (i : Instr). not (op_calls_well m i.op)) (λ (i : Instr). i.place) (λ (i : Instr). CallsWell m i.op → ⊥) (instrs f) (λ i h. (bad_decides i h).yes) (λ i h. (bad_decides i h).no))
+      (found_in (λ (i : Instr). not (op_calls_well m i.op)) (λ (i : Instr). i.place) (λ (i : Instr). CallsWell m i.op → ⊥) (instrs f) (λ i h. (bad_decides i h).0) (λ i h. (bad_decides i h).1))

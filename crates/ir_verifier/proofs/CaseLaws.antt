@@ -15,7 +15,9 @@ use Rattle.ir_core.specs.ValidOps.{IsCaseWord, HasGoodCases, BreaksCases}
 use Rattle.ir_core.proofs.Lists.{Has, has_left, has_right}
 use Rattle.ir_verifier.specs.First.{earliest, IsFound}
 use Rattle.ir_verifier.specs.Faults.{word_value, is_new_word, with_word, are_good_cases, has_good_cases, case_faults}
-use Rattle.ir_verifier.proofs.Decided.{Decides, always, never, negated}
+use Rattle.std.specs.Bool.{Decides}
+use Rattle.std.proofs.lemmas.Bool.Decides.{Decides-not}
+use Rattle.ir_verifier.proofs.Decided.{always, never}
 use Rattle.ir_verifier.proofs.Faulty.{has_in}
 use Rattle.ir_verifier.proofs.CaseWords.{Agree, agrees}
 use Rattle.ir_verifier.proofs.At.{found_at}
@@ -79,22 +81,22 @@ module _ (defs : List TypeDef) where
       by_test false t g rest (inr h') = rest g h'
 
   good : (cs : List SwitchCase) (words : List ℕ) → Decides (are_good_cases words cs) (AreGood words cs)
-  good [] words = record { yes = λ e. record { are_words = λ k d lt. absurd (omega (arith, lt)); fresh = λ k d lt. absurd (omega (arith, lt)); differ = λ i j d less lt. absurd (omega (arith, lt)) }; no = λ g. refl }
+  good [] words = (λ e. record { are_words = λ k d lt. absurd (omega (arith, lt)); fresh = λ k d lt. absurd (omega (arith, lt)); differ = λ i j d less lt. absurd (omega (arith, lt)) }, λ g. refl)
   good (c ∷ cs) words = by_word (word c) (agrees defs c.value.ty c.value.value) (good cs)
     where
       by_test : (a : ℕ) → mean c ≡ IsWord a → (t : Bool) → list_any (nat_eq a) words ≡ t → ((ws : List ℕ) → Decides (are_good_cases ws cs) (AreGood ws cs)) → Decides (not t && are_good_cases (if t then words else words ++ a ∷ []) cs) (AreGood words (c ∷ cs))
       by_test a m true t rest = never (λ (g : AreGood words (c ∷ cs)). head_of (IsFresh words) c cs g.fresh a m (listed a words t))
-      by_test a m false t rest = record { yes = of_rest; no = to_rest }
+      by_test a m false t rest = (of_rest, to_rest)
         where
           of_rest : are_good_cases (words ++ a ∷ []) cs ≡ true → AreGood words (c ∷ cs)
-          of_rest e = let r = (rest (words ++ a ∷ [])).yes e in record {
+          of_rest e = let r = (rest (words ++ a ∷ [])).0 e in record {
             are_words = joined (IsCaseWord defs) c cs (a, m) r.are_words;
             fresh = joined (IsFresh words) c cs (λ b n h. not_listed a words t (subst (Has words) (let same : IsWord b ≡ IsWord a = sym n ∙ m in cc) h)) (λ k d lt b n h. r.fresh k d lt b n (has_left words (a ∷ []) b h));
             differ = AllPairs-cons Differ c cs (λ k d lt same. r.fresh k d lt a (sym same ∙ m) (has_right words (a ∷ []) a (inl refl))) r.differ;
           }
 
           to_rest : AreGood words (c ∷ cs) → are_good_cases (words ++ a ∷ []) cs ≡ true
-          to_rest g = (rest (words ++ a ∷ [])).no (record {
+          to_rest g = (rest (words ++ a ∷ [])).1 (record {
             are_words = tail_of (IsCaseWord defs) c cs g.are_words;
             fresh = λ k d lt b n h. apart k d lt b n (has_in words (a ∷ []) b h);
             differ = rest_pairs c cs g.differ;
@@ -111,7 +113,7 @@ module _ (defs : List TypeDef) where
 
   end_decides : (e : End) → Decides (has_good_cases e) (HasGoodCases defs e)
   end_decides (Switch a other cases) =
-      let g = good cases [] in record { yes = λ e. ((g.yes e).are_words, (g.yes e).differ); no = λ h. g.no (record { are_words = h.0; fresh = λ k d lt b n none. none; differ = h.1 }) }
+      let g = good cases [] in (λ e. ((g.0 e).are_words, (g.0 e).differ), λ h. g.1 (record { are_words = h.0; fresh = λ k d lt b n none. none; differ = h.1 }))
   end_decides (Ret a) = always
   end_decides (Br b) = always
   end_decides (Cond c t e) = always
@@ -122,7 +124,7 @@ module _ (m : Module) (f : Func) where
   IsBad b = HasGoodCases m.types.defs b.end → ⊥
 
   bad_decides : (b : Block) → Decides (not (has_good_cases b.end)) (IsBad b)
-  bad_decides b = negated (has_good_cases b.end) (end_decides m.types.defs b.end)
+  bad_decides b = Decides-not (has_good_cases b.end) (end_decides m.types.defs b.end)
 
   pub cases_found : IsFound (BreaksCases m f) (earliest None (case_faults f))
-  cases_found = found_at (λ (b : Block). not (has_good_cases b.end)) (λ (b : Block). b.end_place) IsBad (λ b. (bad_decides b).yes) (λ b. (bad_decides b).no) f.blocks
+  cases_found = found_at (λ (b : Block). not (has_good_cases b.end)) (λ (b : Block). b.end_place) IsBad (λ b. (bad_decides b).0) (λ b. (bad_decides b).1) f.blocks

@@ -21,19 +21,21 @@ use Rattle.ir_core.specs.ValidConsts.{Fits, FitsType}
 use Rattle.ir_core.specs.ValidOps.{ConstFits, OperandFits, CountFits, BreaksConstants}
 use Rattle.ir_verifier.specs.First.{earliest, IsFound}
 use Rattle.ir_verifier.specs.Faults.{fits, fits_type, is_bit, is_pointer, count_fits, const_fits, value_fits, operand_fits, op_count_fits, step_fits, constant_faults}
-use Rattle.ir_verifier.proofs.Decided.{Decides, always, never, both, negated, each}
+use Rattle.std.specs.Bool.{Decides}
+use Rattle.std.proofs.lemmas.Bool.Decides.{Decides-and, Decides-not}
+use Rattle.ir_verifier.proofs.Decided.{always, never, each}
 use Rattle.ir_verifier.proofs.At.{found_at, step_places}
 
 fits_decides : (w : Width) (n : ℤ) → Decides (fits w n) (Fits w n)
-fits_decides w (pos a) = record { yes = λ e. grind (arith, nat_tests); no = λ h. grind (arith, nat_tests) }
-fits_decides w (negsuc a) = record { yes = λ e. grind (arith, nat_tests); no = λ h. grind (arith, nat_tests) }
+fits_decides w (pos a) = (λ e. grind (arith, nat_tests), λ h. grind (arith, nat_tests))
+fits_decides w (negsuc a) = (λ e. grind (arith, nat_tests), λ h. grind (arith, nat_tests))
 
 -- a type that isn't an integer
 not_integer : (t : IrType) (n : ℤ) → ((w : Width) → t ≡ Int w → ⊥) → Decides false (FitsType t n)
 not_integer t n other = never (λ (h : FitsType t n). other h.0 h.1)
 
 type_decides : (t : IrType) (n : ℤ) → Decides (fits_type t n) (FitsType t n)
-type_decides (Int w) n = record { yes = λ e. (w, refl, (fits_decides w n).yes e); no = λ h. (fits_decides w n).no (let same : h.0 ≡ w = let e : Int w ≡ Int h.0 = h.1 in cc in subst (λ v. Fits v n) same h.2) }
+type_decides (Int w) n = (λ e. (w, refl, (fits_decides w n).0 e), λ h. (fits_decides w n).1 (let same : h.0 ≡ w = let e : Int w ≡ Int h.0 = h.1 in cc in subst (λ v. Fits v n) same h.2))
 type_decides Void n = not_integer Void n (λ w e. cc)
 type_decides Ptr n = not_integer Ptr n (λ w e. cc)
 type_decides (Array' k m ts) n = not_integer (Array' k m ts) n (λ w e. cc)
@@ -44,7 +46,7 @@ count_decides : (n : TypedCount) → Decides (count_fits n) (FitsType n.ty n.cou
 count_decides n = type_decides n.ty n.count
 
 bit_decides : (t : IrType) → Decides (is_bit t) (t ≡ Int W1)
-bit_decides (Int W1) = record { yes = λ e. refl; no = λ h. refl }
+bit_decides (Int W1) = (λ e. refl, λ h. refl)
 bit_decides (Int W8) = never (λ h. cc)
 bit_decides (Int W16) = never (λ h. cc)
 bit_decides (Int W32) = never (λ h. cc)
@@ -55,7 +57,7 @@ bit_decides (Struct' m ts) = never (λ h. cc)
 bit_decides (Named x) = never (λ h. cc)
 
 pointer_decides : (t : IrType) → Decides (is_pointer t) (t ≡ Ptr)
-pointer_decides Ptr = record { yes = λ e. refl; no = λ h. refl }
+pointer_decides Ptr = (λ e. refl, λ h. refl)
 pointer_decides (Int w) = never (λ h. cc)
 pointer_decides Void = never (λ h. cc)
 pointer_decides (Array' k m ts) = never (λ h. cc)
@@ -96,17 +98,17 @@ count_of_decides p r (Phi t es) = always
 count_of_decides p r (Call t g as') = always
 
 step_decides : (s : Step) → Decides (step_fits s) (All OperandFits (operands_of s) × CountFits s)
-step_decides (Does i) = both (list_all operand_fits (op_operands i.op)) (op_count_fits i.op) (each operand_fits OperandFits operand_decides (op_operands i.op)) (count_of_decides i.place i.result i.op)
-step_decides (Ends b) = let e = each operand_fits OperandFits operand_decides (end_operands b.end) in record { yes = λ t. (e.yes t, tt); no = λ h. e.no h.0 }
+step_decides (Does i) = Decides-and (list_all operand_fits (op_operands i.op)) (op_count_fits i.op) (each operand_fits OperandFits operand_decides (op_operands i.op)) (count_of_decides i.place i.result i.op)
+step_decides (Ends b) = let e = each operand_fits OperandFits operand_decides (end_operands b.end) in (λ t. (e.0 t, tt), λ h. e.1 h.0)
 
 module _ (f : Func) where
   abbrev IsBad : Step → Type 0
   IsBad s = All OperandFits (operands_of s) × CountFits s → ⊥
 
   bad_decides : (s : Step) → Decides (not (step_fits s)) (IsBad s)
-  bad_decides s = negated (step_fits s) (step_decides s)
+  bad_decides s = Decides-not (step_fits s) (step_decides s)
 
   pub constants_found : IsFound (BreaksConstants f) (earliest None (constant_faults f))
   constants_found =
       subst (λ (ps : List Place). IsFound (BreaksConstants f) (earliest None ps)) (sym (step_places (λ (s : Step). not (step_fits s)) f.blocks))
-      (found_at (λ (s : Step). not (step_fits s)) place_of IsBad (λ s. (bad_decides s).yes) (λ s. (bad_decides s).no) (steps f))
+      (found_at (λ (s : Step). not (step_fits s)) place_of IsBad (λ s. (bad_decides s).0) (λ s. (bad_decides s).1) (steps f))

@@ -21,7 +21,7 @@ with_new : (set : List ℕ) (n : ℕ) → (Has set n → ⊥) → with_number se
 with_new set n new = by_test (list_any (nat_eq n) set) refl
   where
     by_test : (t : Bool) → list_any (nat_eq n) set ≡ t → (if t then set else set ++ n ∷ []) ≡ set ++ n ∷ []
-    by_test true e = absurd (new ((number_decides n set).yes e))
+    by_test true e = absurd (new ((number_decides n set).0 e))
     by_test false e = refl
 
 all_new : (ns set : List ℕ) → AreNew set ns → with_numbers set ns ≡ set ++ ns

@@ -47,7 +47,7 @@ sound [] names p h = absurd h
 sound (l ∷ ls) names p h = by_part (has_in (place_if (list_any (nat_eq l.name.0) names) l.place) (again (with_number names l.name.0) ls) p h) (sound ls (with_number names l.name.0) p)
   where
     here : (t : Bool) → list_any (nat_eq l.name.0) names ≡ t → Has (if t then (l.place ∷ []) else []) p → Twice names (l ∷ ls) p
-    here true t (inl e) = (0, l, refl, e, inl ((number_decides l.name.0 names).yes t))
+    here true t (inl e) = (0, l, refl, e, inl ((number_decides l.name.0 names).0 t))
     here true t (inr g) = absurd g
     here false t g = absurd g
 
@@ -76,7 +76,7 @@ complete (l ∷ ls) names p w = by_index w.0 w.2 w.4 (complete ls (with_number n
     here : (l ≡ w.1) → Before 0 → Has (again names (l ∷ ls)) p
     here same (inr b) = absurd (omega (arith, b.2))
     here same (inl g) =
-        let t : list_any (nat_eq l.name.0) names ≡ true = (number_decides l.name.0 names).no (subst (λ (a : LocalAt). Has names a.name.0) (sym same) g) in
+        let t : list_any (nat_eq l.name.0) names ≡ true = (number_decides l.name.0 names).1 (subst (λ (a : LocalAt). Has names a.name.0) (sym same) g) in
         let at_p : l.place ≡ p = ap (λ (a : LocalAt). a.place) same ∙ w.3 in
         has_left (place_if (list_any (nat_eq l.name.0) names) l.place) (again (with_number names l.name.0) ls) p (rw t (inl at_p))
 

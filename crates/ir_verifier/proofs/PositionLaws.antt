@@ -10,7 +10,9 @@ use Rattle.ir_core.specs.ValidFunc.{IsPhi, IsAlloca, IsLatePhi, BreaksPositions}
 use Rattle.ir_core.proofs.Lists.{Has, has_left, has_right}
 use Rattle.ir_verifier.specs.First.{earlier, earliest, IsFound}
 use Rattle.ir_verifier.specs.Faults.{place_if, is_phi, is_alloca, is_misplaced, code_faults, position_fault, position_faults_from, position_faults}
-use Rattle.ir_verifier.proofs.Decided.{Decides, always, never, negated}
+use Rattle.std.specs.Bool.{Decides}
+use Rattle.std.proofs.lemmas.Bool.Decides.{Decides-not}
+use Rattle.ir_verifier.proofs.Decided.{always, never}
 use Rattle.ir_verifier.proofs.Faulty.{has_in}
 use Rattle.ir_verifier.proofs.Earliest.{found}
 use Rattle.ir_verifier.proofs.Folds.{fold_next, cut}
@@ -77,12 +79,12 @@ because false b c d (inr h) = rw h.0 (rw h.1 refl)
 -- the test of an instruction behind something that is no phi, or not
 later : (late : Bool) (op : Op) → ((late || not (is_phi op)) ≡ true) → (late ≡ true) ⊎ (IsPhi op → ⊥)
 later true op e = inl refl
-later false op e = inr ((negated (is_phi op) (phi_decides op)).yes e)
+later false op e = inr ((Decides-not (is_phi op) (phi_decides op)).0 e)
 
 is_later : (late : Bool) (op : Op) → (late ≡ true) ⊎ (IsPhi op → ⊥) → (late || not (is_phi op)) ≡ true
 is_later true op h = refl
 is_later false op (inl h) = absurd (let clash : false ≡ true = h in cc)
-is_later false op (inr h) = (negated (is_phi op) (phi_decides op)).no h
+is_later false op (inr h) = (Decides-not (is_phi op) (phi_decides op)).1 h
 
 module _ (entry : Bool) where
   sound : (code : List Instr) (late : Bool) (p : Place) → Has (code_faults entry late code) p → Wrong entry late code p
@@ -93,8 +95,8 @@ module _ (entry : Bool) where
       here t = (0, i, refl, t.1, reason (why (is_phi i.op) late (is_alloca i.op) entry t.0))
         where
           reason : ((is_phi i.op ≡ true) × (late ≡ true)) ⊎ ((is_alloca i.op ≡ true) × (entry ≡ false)) → (IsPhi i.op × ((late ≡ true) ⊎ Behind (i ∷ is) 0)) ⊎ (IsAlloca i.op × (entry ≡ false))
-          reason (inl r) = inl ((phi_decides i.op).yes r.0, inl r.1)
-          reason (inr r) = inr ((alloca_decides i.op).yes r.0, r.1)
+          reason (inl r) = inl ((phi_decides i.op).0 r.0, inl r.1)
+          reason (inr r) = inr ((alloca_decides i.op).0 r.0, r.1)
 
       next : Wrong entry (late || not (is_phi i.op)) is p → Wrong entry late (i ∷ is) p
       next w = (suc w.0, w.1, w.2, w.3, reason w.4)
@@ -131,8 +133,8 @@ module _ (entry : Bool) where
           is_late (inr b) = absurd (nothing b)
 
           reason : (IsPhi i.op × ((late ≡ true) ⊎ Behind (i ∷ is) 0)) ⊎ (IsAlloca i.op × (entry ≡ false)) → ((is_phi i.op ≡ true) × (late ≡ true)) ⊎ ((is_alloca i.op ≡ true) × (entry ≡ false))
-          reason (inl q) = inl ((phi_decides i.op).no q.0, is_late q.1)
-          reason (inr q) = inr ((alloca_decides i.op).no q.0, q.1)
+          reason (inl q) = inl ((phi_decides i.op).1 q.0, is_late q.1)
+          reason (inr q) = inr ((alloca_decides i.op).1 q.0, q.1)
 
       by_index : (n : ℕ) → slice_get (i ∷ is) n ≡ Some w.1 → (IsPhi w.1.op × ((late ≡ true) ⊎ Behind (i ∷ is) n)) ⊎ (IsAlloca w.1.op × (entry ≡ false)) → (Wrong entry (late || not (is_phi i.op)) is p → Has (code_faults entry (late || not (is_phi i.op)) is) p) → Has (code_faults entry late (i ∷ is)) p
       by_index zero at r rest = here (let same : Some i ≡ Some w.1 = at in cc) r

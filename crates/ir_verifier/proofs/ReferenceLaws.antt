@@ -21,7 +21,8 @@ use Rattle.ir_core.specs.ValidConsts.{IsVariable}
 use Rattle.ir_core.specs.ValidFunc.{IsParam, IsRegister, IsLabel, IsKnown, RefersWrongly}
 use Rattle.ir_core.proofs.Lists.{Has, has_left, has_right, has_part, contains}
 use Rattle.ir_verifier.specs.Faults.{with_number, with_numbers, numbers_of, param_number, result_number, block_results, value_numbers, label_number, label_numbers, global_number, global_numbers, scope_of, is_known_const, is_known_value, is_known, is_label}
-use Rattle.ir_verifier.proofs.Decided.{Decides, never, some_fails, passes, false_is_not_true}
+use Rattle.std.specs.Bool.{Decides}
+use Rattle.ir_verifier.proofs.Decided.{never, some_fails, passes, false_is_not_true}
 use Rattle.ir_verifier.proofs.Faulty.{has, has_in}
 
 -- ---- a number in a set
@@ -32,12 +33,12 @@ number_decides n [] = never (λ h. h)
 number_decides n (m ∷ ms) = by_test (nat_eq n m) refl (number_decides n ms)
   where
     by_test : (t : Bool) → nat_eq n m ≡ t → Decides (list_any (nat_eq n) ms) (Has ms n) → Decides (t || list_any (nat_eq n) ms) (Has (m ∷ ms) n)
-    by_test true t d = record { yes = λ e. inl (let same : m ≡ n = grind (arith, nat_tests) in same); no = λ h. refl }
-    by_test false t d = record { yes = λ e. inr (d.yes e); no = of_has }
+    by_test true t d = (λ e. inl (let same : m ≡ n = grind (arith, nat_tests) in same), λ h. refl)
+    by_test false t d = (λ e. inr (d.0 e), of_has)
       where
         of_has : (m ≡ n) ⊎ Has ms n → list_any (nat_eq n) ms ≡ true
         of_has (inl same) = absurd (grind (arith, nat_tests))
-        of_has (inr h) = d.no h
+        of_has (inr h) = d.1 h
 
 with_one : (ns : List ℕ) (m n : ℕ) → Has (with_number ns m) n → Has ns n ⊎ (m ≡ n)
 with_one ns m n h = by_test (list_any (nat_eq m) ns) h
@@ -56,7 +57,7 @@ one_with ns m n h = by_test (list_any (nat_eq m) ns) refl h
   where
     by_test : (t : Bool) → list_any (nat_eq m) ns ≡ t → Has ns n ⊎ (m ≡ n) → Has (if t then ns else ns ++ m ∷ []) n
     by_test true t (inl g) = g
-    by_test true t (inr e) = subst (Has ns) e ((number_decides m ns).yes t)
+    by_test true t (inr e) = subst (Has ns) e ((number_decides m ns).0 t)
     by_test false t (inl g) = has_left ns (m ∷ []) n g
     by_test false t (inr e) = has_right ns (m ∷ []) n (inl e)
 
@@ -127,7 +128,7 @@ IsPlain (operands.Const c) = IsValue c
 
 module _ (m : Module) (f : Func) where
   label_decides : (x : LocalId) → Decides (is_label (scope_of m f) x) (IsLabel f x)
-  label_decides x = record { yes = λ e. of_number (in_numbers (map label_number f.blocks) [] x.0 (d.yes e)); no = λ b. d.no (to_number b) }
+  label_decides x = (λ e. of_number (in_numbers (map label_number f.blocks) [] x.0 (d.0 e)), λ b. d.1 (to_number b))
     where
       d : Decides (list_any (nat_eq x.0) (label_numbers f)) (Has (label_numbers f) x.0)
       d = number_decides x.0 (label_numbers f)
@@ -140,7 +141,7 @@ module _ (m : Module) (f : Func) where
       to_number b = numbers_in (map label_number f.blocks) [] x.0 (inr (subst (λ (y : LocalId). Has (map label_number f.blocks) y.0) b.2 (mapped_has label_number f.blocks b.0 (has f.blocks b.0 b.1))))
 
   variable_decides : (x : SymId) → Decides (list_any (nat_eq x.0) (global_numbers m)) (IsVariable m x)
-  variable_decides x = record { yes = λ e. of_number (in_numbers (map global_number m.globals) [] x.0 (d.yes e)); no = λ b. d.no (to_number b) }
+  variable_decides x = (λ e. of_number (in_numbers (map global_number m.globals) [] x.0 (d.0 e)), λ b. d.1 (to_number b))
     where
       d : Decides (list_any (nat_eq x.0) (global_numbers m)) (Has (global_numbers m) x.0)
       d = number_decides x.0 (global_numbers m)
@@ -153,7 +154,7 @@ module _ (m : Module) (f : Func) where
       to_number b = numbers_in (map global_number m.globals) [] x.0 (inr (subst (λ (y : SymId). Has (map global_number m.globals) y.0) b.2 (mapped_has global_number m.globals b.0 (has m.globals b.0 b.1))))
 
   local_decides : (x : LocalId) → Decides (list_any (nat_eq x.0) (value_numbers f)) (IsParam f x ⊎ IsRegister f x)
-  local_decides x = record { yes = λ e. of_all (in_numbers (flat_map block_results f.blocks) (numbers_of (map param_number f.params)) x.0 (d.yes e)); no = λ k. d.no (to_number k) }
+  local_decides x = (λ e. of_all (in_numbers (flat_map block_results f.blocks) (numbers_of (map param_number f.params)) x.0 (d.0 e)), λ k. d.1 (to_number k))
     where
       d : Decides (list_any (nat_eq x.0) (value_numbers f)) (Has (value_numbers f) x.0)
       d = number_decides x.0 (value_numbers f)
@@ -186,10 +187,10 @@ module _ (m : Module) (f : Func) where
   NamesKnown c = (s : SymId) → Contains (const_symbols c) s → IsVariable m s
 
   no_names : Decides true ((s : SymId) → Contains [] s → IsVariable m s)
-  no_names = record { yes = λ e s h. absurd (has [] s h); no = λ h. refl }
+  no_names = (λ e s h. absurd (has [] s h), λ h. refl)
 
   one_name : (g : SymId) → Decides (list_any (nat_eq g.0) (global_numbers m)) ((s : SymId) → Contains (g ∷ []) s → IsVariable m s)
-  one_name g = record { yes = λ e s h. of_has ((variable_decides g).yes e) s (has (g ∷ []) s h); no = λ k. (variable_decides g).no (k g (contains (g ∷ []) g (inl refl))) }
+  one_name g = (λ e s h. of_has ((variable_decides g).0 e) s (has (g ∷ []) s h), λ k. (variable_decides g).1 (k g (contains (g ∷ []) g (inl refl))))
     where
       of_has : IsVariable m g → (s : SymId) → Has (g ∷ []) s → IsVariable m s
       of_has v s (inl e) = subst (IsVariable m) e v
@@ -216,12 +217,12 @@ module _ (m : Module) (f : Func) where
     wrong_value : list_all (is_known (scope_of m f)) (operands_of s) ≡ false → RefersWrongly m f s
     wrong_value e =
         let r = some_fails (is_known (scope_of m f)) (operands_of s) e in
-        inl (r.0, contains (operands_of s) r.0 r.1, λ k. false_is_not_true (sym r.2 ∙ (value_decides r.0.value (plain r.0 r.1)).no k))
+        inl (r.0, contains (operands_of s) r.0 r.1, λ k. false_is_not_true (sym r.2 ∙ (value_decides r.0.value (plain r.0 r.1)).1 k))
 
     wrong_label : list_all (is_label (scope_of m f)) (labels_of s) ≡ false → RefersWrongly m f s
     wrong_label e =
         let r = some_fails (is_label (scope_of m f)) (labels_of s) e in
-        inr (r.0, contains (labels_of s) r.0 r.1, λ k. false_is_not_true (sym r.2 ∙ (label_decides r.0).no k))
+        inr (r.0, contains (labels_of s) r.0 r.1, λ k. false_is_not_true (sym r.2 ∙ (label_decides r.0).1 k))
 
     pub wrong : not test ≡ true → RefersWrongly m f s
     wrong e = by_tests (list_all (is_known (scope_of m f)) (operands_of s)) (list_all (is_label (scope_of m f)) (labels_of s)) refl refl (subst (λ (t : Bool). not t ≡ true) same e)
@@ -239,6 +240,6 @@ module _ (m : Module) (f : Func) where
         by_tests true false a b g = refl
         by_tests true true a b (inl g) =
             let h = has (operands_of s) g.0 g.1 in
-            absurd (g.2 ((value_decides g.0.value (plain g.0 h)).yes (passes (is_known (scope_of m f)) (operands_of s) g.0 a h)))
+            absurd (g.2 ((value_decides g.0.value (plain g.0 h)).0 (passes (is_known (scope_of m f)) (operands_of s) g.0 a h)))
         by_tests true true a b (inr g) =
-            absurd (g.2 ((label_decides g.0).yes (passes (is_label (scope_of m f)) (labels_of s) g.0 b (has (labels_of s) g.0 g.1))))
+            absurd (g.2 ((label_decides g.0).0 (passes (is_label (scope_of m f)) (labels_of s) g.0 b (has (labels_of s) g.0 g.1))))
