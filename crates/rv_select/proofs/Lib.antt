@@ -18,4 +18,5 @@ pub mod Stores
 pub mod Texts
 pub mod Turning
 pub mod Whole
+pub mod WorkedCodes
 pub mod Words

@@ -1,5 +1,5 @@
 -- The code of a body.
-use Rattle.std.specs.Prelude.{◌≡◌, ℕ, ◌+◌, ◌*◌, ◌<◌, ◌≤◌, min, List, [], ◌∷◌, ◌++◌, length, take}
+use Rattle.std.specs.Prelude.{◌≡◌, ℕ, ◌*◌, ◌<◌, ◌≤◌, min, List, ◌++◌, length, take}
 use Rattle.ir_core.specs.declared.flat.FlatBody.{FlatBody}
 use Rattle.frame_layout.specs.Offsets.{Offsets}
 use Rattle.frame_layout.specs.Frame.{frame, frame_of}

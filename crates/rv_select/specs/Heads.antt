@@ -2,9 +2,7 @@
 use Rattle.std.specs.Prelude.{◌≡◌, ℕ, ◌+◌, ◌*◌, ◌<◌, min, All, List, [], ◌∷◌, length, slice_index_or}
 use Rattle.ir_core.specs.declared.flat.FlatBlock.{FlatBlock}
 use Rattle.frame_layout.specs.Offsets.{Offsets}
-use Rattle.rv_select.specs.declared.faults.Cause.{Cause}
-use Rattle.rv_select.specs.declared.faults.Cause.TheVariants.{Weight, Frame, Code}
-use Rattle.rv_select.specs.declared.faults.NoSize.{NoSize}
+use Rattle.rv_select.specs.declared.faults.Cause.TheVariants.{Code}
 use Rattle.rv_select.specs.declared.faults.SelectFault.{SelectFault}
 use Rattle.rv_select.specs.declared.faults.SelectFault.TheVariants as fault
 use Rattle.rv_select.specs.Lowered.{block, HasFewArguments}

@@ -8,3 +8,4 @@ pub mod Stands
 pub mod Sums
 pub mod Table
 pub mod Texts
+pub mod Worked

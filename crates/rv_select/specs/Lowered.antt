@@ -8,7 +8,6 @@ use Rattle.oi_base.specs.declared.ids.BlockId.{BlockId}
 use Rattle.oi_base.specs.declared.ids.FuncId.{FuncId}
 use Rattle.rv_isa.specs.declared.rv.Rv.{Rv}
 use Rattle.rv_isa.specs.declared.rv.Rv.TheVariants as rv
-use Rattle.ir_core.specs.declared.flat.BinOp.{BinOp}
 use Rattle.ir_core.specs.declared.flat.Cmp.{Cmp}
 use Rattle.ir_core.specs.declared.flat.Cmp.TheVariants as cmp
 use Rattle.ir_core.specs.declared.flat.CastOp.{CastOp}

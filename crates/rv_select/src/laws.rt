@@ -8,6 +8,7 @@ ghost use Rattle.rv_isa.specs.Refines.{Refines};
 ghost use Rattle.rv_select.specs.Stands.{Object, StandsFor, IsLaid};
 ghost use Rattle.rv_select.specs.Sums.{IsSum, IsSums, IsNeverStuck};
 ghost use Rattle.rv_select.specs.Carried.{IsCarriedOut};
+ghost use Rattle.rv_select.specs.Worked.{WorkedCodes};
 
 /// The rows of sums and differences, of any width, in any block of any activation: where the run goes on with the next
 /// instruction, the machine comes quietly from a state that stands for the run's to one that stands for the next. It does
@@ -23,4 +24,11 @@ pub fn sums_are_carried_out()
 #[tactic(auto, using(crate::proofs::Whole::sums_refined))]
 pub fn sums_are_refined()
     ensures { (o : Object) (p : Program) (input : List ℕ) → IsLaid o p → IsSums p (o.frame p.main) → IsNeverStuck p input → Refines (o.frame p.main).size (flat_run p input) (run o.segments input) }
+{}
+
+/// The codes of small bodies: each row of the table at each width, with near and far slots. It does nothing: its contract
+/// is the law.
+#[tactic(auto, using(crate::proofs::WorkedCodes::worked_codes))]
+pub fn worked_codes()
+    ensures { WorkedCodes }
 {}

@@ -15,5 +15,5 @@ mod selecting;
 pub use code::Code;
 pub use faults::{Cause, NoSize, SelectFault};
 pub use item::Item;
-pub use laws::{sums_are_carried_out, sums_are_refined};
+pub use laws::{sums_are_carried_out, sums_are_refined, worked_codes};
 pub use selecting::select;

@@ -1,6 +1,6 @@
 use Rattle.std.proofs.Common.{◌≡◌, ◌++◌, drop}
 use Rattle.std.specs.List.{flat_map}
-use Rattle.rv_select.specs.Lowered.{numbers, give_phis, before_end}
+use Rattle.rv_select.specs.Lowered.{numbers, give_phis}
 use Rattle.rv_select.proofs.ends.push_before_end.Given as goal
 
 abbrev pub invariant-loop-to : goal.invariant-loop-to

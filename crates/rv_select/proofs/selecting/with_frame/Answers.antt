@@ -1,4 +1,4 @@
-use Rattle.std.proofs.Common.{◌≡◌, ◌*◌, ℕ, List, length, min, refl, sym, ap, ◌∙◌, arith}
+use Rattle.std.proofs.Common.{ℕ, min, refl, ap, ◌∙◌, arith}
 use Rattle.rv_select.proofs.HeadPlaces.{drafted, headed, count_is, low_heads, code_is}
 use Rattle.rv_select.proofs.selecting.with_frame.Goals as goal
 
