@@ -16,3 +16,4 @@ mod Listing
 mod KindLaws
 mod Distinct
 mod CallLaws
+mod TargetLaws

@@ -2,3 +2,4 @@ pub mod First
 pub mod Faults
 pub mod HasMain
 pub mod CallFaults
+pub mod Target

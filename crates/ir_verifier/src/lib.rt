@@ -14,5 +14,6 @@ mod numbers;
 mod positions;
 mod references;
 mod scope;
+mod target;
 #[cfg(test)]
 mod tests;
