@@ -12,7 +12,7 @@ use Rattle.ir_verifier.specs.First.{earlier, earliest, IsFound}
 pub up_to_itself : (p : Place) → is_up_to p p ≡ true
 up_to_itself p = grind (arith, nat_tests)
 
-up_to_trans : (p q r : Place) → is_up_to p q ≡ true → is_up_to q r ≡ true → is_up_to p r ≡ true
+pub up_to_trans : (p q r : Place) → is_up_to p q ≡ true → is_up_to q r ≡ true → is_up_to p r ≡ true
 up_to_trans p q r h g = grind (arith, nat_tests)
 
 pub up_to_total : (p q : Place) → is_up_to p q ≡ false → is_up_to q p ≡ true

@@ -17,3 +17,4 @@ mod KindLaws
 mod Distinct
 mod CallLaws
 mod TargetLaws
+mod SymbolLaws

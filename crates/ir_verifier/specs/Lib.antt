@@ -3,3 +3,4 @@ pub mod Faults
 pub mod HasMain
 pub mod CallFaults
 pub mod Target
+pub mod SymbolFaults

@@ -23,7 +23,7 @@ pub fn earlier_if(first: Option<Place>, counts: bool, p: Place) -> Option<Place>
 }
 
 /// Whether a place is the other or stands before it.
-fn is_up_to(p: Place, q: Place) -> bool
+pub fn is_up_to(p: Place, q: Place) -> bool
     ensures { result ≡ is_up_to p q }
 {
     p.line < q.line || p.line == q.line && p.column <= q.column

@@ -14,6 +14,7 @@ mod numbers;
 mod positions;
 mod references;
 mod scope;
+mod symbols;
 mod target;
 #[cfg(test)]
 mod tests;
