@@ -17,3 +17,6 @@ mod words;
 
 pub use fault::{ReadFault, Which};
 pub use laws::a_text_has_one_module;
+
+#[cfg(test)]
+mod tests;
