@@ -2,8 +2,10 @@
 #![tactic(auto)]
 
 mod ahead;
+mod attributing;
 mod cursor;
 mod fault;
+mod grouping;
 mod kinds;
 mod laws;
 mod naming;
