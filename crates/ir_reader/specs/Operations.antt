@@ -93,11 +93,14 @@ icmp_word = word (codes "icmp")
 abbrev pub samesign : Set
 samesign = word (codes "samesign")
 
+abbrev pub may_samesign : Form Unit
+may_samesign = either samesign (expect samesign) (ret tt)
+
 -- icmp [ samesign ] CC type value , value
 unfoldable pub icmp : Limits → Form Op
 icmp l = do
   w ← expect icmp_word
-  f ← either samesign (expect samesign) (ret tt)
+  f ← may_samesign
   o ← one_word order_words
   t ← type_form l
   a ← value l

@@ -9,6 +9,7 @@ mod grouping;
 mod kinds;
 mod laws;
 mod naming;
+mod operating;
 mod parts;
 mod reader;
 mod table;
