@@ -2,10 +2,12 @@
 #![tactic(auto)]
 
 mod ahead;
+mod allocating;
 mod attributing;
 mod cursor;
 mod fault;
 mod grouping;
+mod indexing;
 mod kinds;
 mod laws;
 mod naming;
