@@ -271,10 +271,13 @@ call_word = word (codes "call")
 abbrev pub call_words : Set
 call_words = tail_word ++ call_word
 
+abbrev pub call_words_form : Form Unit
+call_words_form = either tail_word (expect tail_word >>= λ t. expect call_word) (expect call_word)
+
 -- [ tail | notail ] call { attr }
 unfoldable pub call_head : Form Unit
 call_head = do
-  w ← either tail_word (expect tail_word >>= λ t. expect call_word) (expect call_word)
+  w ← call_words_form
   m ← attribute_list barred.Values no_marks
   ret tt
 

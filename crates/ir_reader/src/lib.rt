@@ -4,6 +4,7 @@
 mod ahead;
 mod allocating;
 mod attributing;
+mod calling;
 mod cursor;
 mod fault;
 mod grouping;

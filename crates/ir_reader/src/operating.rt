@@ -2,7 +2,7 @@ ghost use Rattle.std.specs.Prelude.{◌≡◌, Some};
 ghost use Rattle.ir_reader.specs.Sets.{head_in};
 ghost use Rattle.ir_reader.specs.Gives.{Gives, IsVerdict};
 ghost use Rattle.ir_reader.specs.Tokens.{look, words_of, one_word, skip, expect, stated};
-ghost use Rattle.ir_reader.specs.Operations.{align_then_notes, note_then_notes, align_or_notes, align_and_notes, bin_words, bin_flag, bin, order_words, may_samesign, icmp, select, cast_words, cast_flag, cast, load, store};
+ghost use Rattle.ir_reader.specs.Operations.{align_then_notes, note_then_notes, align_or_notes, align_and_notes, bin_words, bin_flag, bin, order_words, may_samesign, icmp, select, cast_words, cast_flag, cast, load, store, other_op};
 
 use crate::fault::ReadFault;
 use crate::reader::Reader;
@@ -330,5 +330,31 @@ impl<'a> Reader<'a> {
         let address = self.typed()?;
         let align = self.align_and_notes()?;
         Ok(Op::Store(value, address, align))
+    }
+
+    /// An operation that has a result, but a call or a `getelementptr`.
+    #[tactic(auto, unfolding(crate::specs::Operations::other_op))]
+    pub fn other_op(&mut self) -> Result<Op, ReadFault>
+        ensures { Gives result self.new ((other_op stated).parse self.old) }
+    {
+        if self.is_bin() {
+            return self.bin();
+        }
+        if self.is_word(b"icmp") {
+            return self.icmp();
+        }
+        if self.is_word(b"select") {
+            return self.select();
+        }
+        if self.is_cast() {
+            return self.cast();
+        }
+        if self.is_word(b"alloca") {
+            return self.alloca();
+        }
+        if self.is_word(b"load") {
+            return self.load();
+        }
+        self.phi()
     }
 }
