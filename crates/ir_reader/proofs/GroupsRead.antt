@@ -4,16 +4,14 @@ use Rattle.std.specs.Prelude.{◌||◌, Option, Some, None, reverse}
 use Rattle.std.proofs.lemmas.List.{reverse-append}
 use Rattle.ir_reader.specs.Pieces.{Piece}
 use Rattle.ir_reader.specs.Names.{Names}
-use Rattle.ir_reader.specs.Forms.{Left, Outcome, Refused}
+use Rattle.ir_reader.specs.Forms.{Outcome, Refused}
 use Rattle.ir_reader.specs.Groups.{awaits, is_noinline, fed, inside_at}
 use Rattle.std.specs.Option.{option_map}
-use Rattle.ir_lexer.specs.Lexing.{is_end}
 use Rattle.ir_reader.specs.declared.fault.ReadFault.{ReadFault}
 use Rattle.ir_reader.specs.declared.grouping.Step.{Step}
 use Rattle.ir_reader.specs.Pieces.{Is, Bad}
 use Rattle.ir_reader.specs.Words.{is_left_out}
-use Rattle.ir_reader.specs.Forms.{Fault}
-use Rattle.ir_reader.specs.Gives.{rest_of, refused, left_out_if, Fails, fault_of}
+use Rattle.ir_reader.specs.Gives.{rest_of, refused, left_out_if, Fails}
 use Rattle.ir_reader.specs.Signs.{put_back, head_awaits, head_noinline}
 
 -- a token that is refused

@@ -1,4 +1,4 @@
-use Rattle.std.proofs.Common.{◌≡◌, Bool, false, List, [], length}
+use Rattle.std.proofs.Common.{◌≡◌, Bool, List, length}
 use Rattle.ir_core.specs.declared.op.Pair.{Pair}
 use Rattle.ir_reader.specs.Forms.{ret, rounds}
 use Rattle.ir_reader.specs.Tokens.{stated, sign}
