@@ -20,3 +20,5 @@ pub mod Rounds
 pub mod Many
 pub mod TypesRead
 pub mod InitsRead
+pub mod GroupsRead
+pub mod WordsRead

@@ -13,3 +13,4 @@ pub mod Bodies
 pub mod Entities
 pub mod Reading
 pub mod Gives
+pub mod Signs

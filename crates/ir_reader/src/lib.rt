@@ -2,11 +2,17 @@
 #![tactic(auto)]
 
 mod ahead;
+mod allocating;
+mod attributing;
+mod calling;
 mod cursor;
 mod fault;
+mod grouping;
+mod indexing;
 mod kinds;
 mod laws;
 mod naming;
+mod operating;
 mod parts;
 mod reader;
 mod table;
@@ -17,3 +23,6 @@ mod words;
 
 pub use fault::{ReadFault, Which};
 pub use laws::a_text_has_one_module;
+
+#[cfg(test)]
+mod tests;

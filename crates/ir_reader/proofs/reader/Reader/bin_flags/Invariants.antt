@@ -1,0 +1,10 @@
+use Rattle.std.proofs.Common.{◌≡◌, length}
+use Rattle.ir_reader.specs.Tokens.{skip, expect}
+use Rattle.ir_reader.specs.Operations.{bin_flag}
+use Rattle.ir_reader.proofs.reader.Reader.bin_flags.Given as goal
+
+abbrev pub invariant-loop-self : goal.invariant-loop-self
+invariant-loop-self l = (skip bin_flag (expect bin_flag)).parse l.self ≡ (skip bin_flag (expect bin_flag)).parse l.initial.self
+
+abbrev pub decreases-loop-self : goal.decreases-loop-self
+decreases-loop-self l = length l.self.tokens

@@ -1,0 +1,12 @@
+use Rattle.std.proofs.Common.{◌≡◌, Bool, List, length}
+use Rattle.ir_core.specs.declared.op.Pair.{Pair}
+use Rattle.ir_reader.specs.Forms.{ret, rounds}
+use Rattle.ir_reader.specs.Tokens.{stated, sign}
+use Rattle.ir_reader.specs.Operations.{one_listed, pair}
+use Rattle.ir_reader.proofs.reader.Reader.pairs_and_notes.Given as goal
+
+abbrev pub invariant-loop-self : goal.invariant-loop-self
+invariant-loop-self l = (rounds (λ (x : Bool × List Pair). sign 44) (one_listed (pair stated)) (λ x. ret x.1) l.so_far).parse l.self ≡ (rounds (λ (x : Bool × List Pair). sign 44) (one_listed (pair stated)) (λ x. ret x.1) l.initial.so_far).parse l.initial.self
+
+abbrev pub decreases-loop-self : goal.decreases-loop-self
+decreases-loop-self l = length l.self.tokens
