@@ -14,8 +14,6 @@ use Rattle.ir_reader.specs.declared.kinds.Barred.TheVariants as barred
 use Rattle.ir_reader.specs.declared.parts.Attribute.{Attribute}
 use Rattle.ir_reader.specs.declared.parts.Attribute.TheVariants as attributes
 use Rattle.ir_reader.specs.declared.parts.Marks.{Marks}
-use Rattle.ir_reader.specs.declared.parts.Stand.{Stand}
-use Rattle.ir_reader.specs.declared.parts.Stand.TheVariants.{Free, AfterWord, AfterInt}
 use Rattle.ir_reader.specs.Pieces.{Piece, Is, Bad}
 use Rattle.ir_reader.specs.Sets.{Set, is_integer_type, among, has, head_in, apart}
 use Rattle.ir_reader.specs.Words.{no_attributes}
@@ -23,7 +21,7 @@ use Rattle.ir_reader.specs.Forms.{Takes}
 use Rattle.ir_reader.specs.Tokens.{Limits, sign, kind, words_of, text}
 use Rattle.ir_reader.specs.Types.{type_set}
 use Rattle.ir_reader.specs.Values.{gep_word, const_words, value_set}
-use Rattle.ir_reader.specs.Attributes.{meta, node, note_rest, note, notes, attribute_if, attribute_word_of, attribute_words, attribute_word, attribute_argument, attribute_value, attribute_set, attribute, marked, one_mark, mark_or_note, attribute_list, attributes_and_notes, not_word, any_attribute, more_set, more, no_integer, last, argument_value, argument}
+use Rattle.ir_reader.specs.Attributes.{meta, node, note_rest, note, notes, attribute_if, attribute_word_of, attribute_words, attribute_word, attribute_argument, attribute_value, attribute_set, attribute, marked, attribute_list, attributes_and_notes, Stand, Free, AfterWord, AfterInt, not_word, any_attribute, more_set, more, no_integer, last, argument_value, argument}
 use Rattle.ir_reader.proofs.FormLaws.{Shape, Law}
 use Rattle.ir_reader.proofs.LawsOfRounds.{law_rounds, rounds_greedy}
 use Rattle.ir_reader.proofs.Within.{within_head}
@@ -110,12 +108,6 @@ law_attribute b =
     (or (seq law_string (λ (s : List ℕ). seq law_attribute_value (λ (e : Unit). done attributes.Other) refl) refl)
     (seq law_hash (λ (n : List ℕ). done (attributes.Group n)) refl) refl refl) refl refl) attribute_greedy refl
 
-pub law_one_mark : {w : Bool} (b : Barred) (m : Marks) → Law w (one_mark b m) (goes_on_with (attribute_set b) attribute_greedy)
-law_one_mark b m = going_on (seq (law_attribute b) (λ (a : Attribute). done (marked m a)) refl) attribute_greedy refl
-
-pub law_mark_or_note : {w : Bool} (m : Marks) → Law w (mark_or_note m) (goes_on_with (kind kinds.Meta ++ attribute_set barred.Nothing) attribute_greedy)
-law_mark_or_note m = going_on (or (seq law_note (λ (n : Unit). done m) refl) (law_one_mark barred.Nothing m) refl refl) attribute_greedy refl
-
 pub law_attribute_list : {w : Bool} (b : Barred) (m : Marks) → Law w (attribute_list b m) (maybe (attribute_set b) (attribute_greedy ++ attribute_set b))
 unfolding attribute_list
 law_attribute_list b m = again (λ (m : Marks). seq (law_attribute b) (λ (a : Attribute). done (marked m a)) refl) (λ (m : Marks). done m) refl refl refl refl m
@@ -130,35 +122,35 @@ law_attributes_and_notes m =
 
 -- ---- an argument
 
-pub law_not_word : {w : Bool} (b : Barred) → Law w (not_word b) (goes_on_with (kind kinds.Str ++ kind kinds.Hash) (sign 61))
+law_not_word : {w : Bool} (b : Barred) → Law w (not_word b) (goes_on_with (kind kinds.Str ++ kind kinds.Hash) (sign 61))
 law_not_word b =
     or (seq law_string (λ (s : List ℕ). seq law_attribute_value (λ (e : Unit). done Free) refl) refl) (seq law_hash (λ (n : List ℕ). done Free) refl) refl refl
 
-pub law_any : {w : Bool} → Law w any_attribute (goes_on_with (attribute_set barred.Values) (sign 61))
+law_any : {w : Bool} → Law w any_attribute (goes_on_with (attribute_set barred.Values) (sign 61))
 law_any = or (seq (law_attribute_word barred.Values) (λ (a : Attribute). done AfterWord) refl) (law_not_word barred.Values) refl refl
 
-abbrev pub z : Stand → Shape
+abbrev z : Stand → Shape
 z x = goes_on_with (more_set x) (sign 61)
 
-pub law_more : {w : Bool} (x : Stand) → Law w (more x) (z x)
+law_more : {w : Bool} (x : Stand) → Law w (more x) (z x)
 law_more Free = law_any
 law_more AfterWord = or (seq law_int (λ (n : ℤ). done (AfterInt n)) refl) (or (seq (law_group 40 41 refl) (λ (g : Bool). done Free) refl) law_any refl refl) refl refl
 law_more (AfterInt n) = law_any
 
-abbrev pub no_integer_set : Set
+abbrev no_integer_set : Set
 no_integer_set = kind kinds.Local ++ kind kinds.Global ++ gep_word ++ words_of const_words
 
-pub law_no_integer : {w : Bool} (l : Limits) → Law w (no_integer l) (begins_with no_integer_set)
+law_no_integer : {w : Bool} (l : Limits) → Law w (no_integer l) (begins_with no_integer_set)
 law_no_integer l =
     let as_value = λ (c : Const). done (operands.Const c) in
     or law_local_value (or (seq law_address as_value refl) (or (seq (law_gep l.length l.levels) as_value refl) (seq law_const_word as_value refl) refl refl) refl refl) refl refl
 
-abbrev pub y : Stand → Shape
+abbrev y : Stand → Shape
 y Free = begins_with value_set
 y AfterWord = begins_with no_integer_set
 y (AfterInt n) = maybe value_set value_set
 
-pub law_last : {w : Bool} (l : Limits) (x : Stand) → Law w (last l x) (y x)
+law_last : {w : Bool} (l : Limits) (x : Stand) → Law w (last l x) (y x)
 law_last l Free = law_value l
 law_last l AfterWord = law_no_integer l
 law_last l (AfterInt n) = shaped (or (law_value l) (done (operands.Const (consts.Int n))) refl refl) value_set value_set refl refl

@@ -41,7 +41,7 @@ use Rattle.ir_reader.proofs.LawsOfAttributes.{law_note, law_notes, attribute_gre
 
 -- ---- items and then notes
 
-pub law_listing : {A : Type 0} {w : Bool} {f : Form A} {z : Set} → Law w f (begins_with z) → apart (kind kinds.Meta) (z ++ []) ≡ true → (b : Bool) (xs : List A) → Law w (expect (sign 44) >>= λ c. listing f b xs) (begins_with (sign 44))
+law_listing : {A : Type 0} {w : Bool} {f : Form A} {z : Set} → Law w f (begins_with z) → apart (kind kinds.Meta) (z ++ []) ≡ true → (b : Bool) (xs : List A) → Law w (expect (sign 44) >>= λ c. listing f b xs) (begins_with (sign 44))
 law_listing law e true xs = seq (is_sign 44 refl) (λ (c : Unit). seq law_note (λ (n : Unit). done (true, xs)) refl) refl
 law_listing {A = A} law e false xs = seq (is_sign 44 refl) (λ (c : Unit). or (seq law_note (λ (n : Unit). done (true, xs)) refl) (seq law (λ (a : A). done (false, xs ++ a ∷ [])) refl) refl e) refl
 
@@ -126,7 +126,7 @@ law_gep_op l = seq (is_word (codes "getelementptr") refl) (λ (u : Unit). seq la
 law_local_name : {w : Bool} → Law w (text kinds.Local) (begins_with (kind kinds.Local))
 law_local_name = law_text kinds.Local (tokens.Local []) refl
 
-pub law_pair : {w : Bool} (l : Limits) → Law w (pair l) (begins_with (sign 91))
+law_pair : {w : Bool} (l : Limits) → Law w (pair l) (begins_with (sign 91))
 unfolding pair
 law_pair l =
     seq (is_sign 91 refl) (λ (o : Unit). seq (law_value l) (λ (v : Operand). seq (is_sign 44 refl) (λ (c : Unit). seq law_local_name (λ (n : List ℕ). seq (does (local n)) (λ (b : LocalId).

@@ -20,5 +20,3 @@ pub mod Rounds
 pub mod Many
 pub mod TypesRead
 pub mod InitsRead
-pub mod GroupsRead
-pub mod WordsRead

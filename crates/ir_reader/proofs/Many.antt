@@ -70,11 +70,3 @@ skip_ends p f l o h so_far = sym so_far ∙ stops (λ (x : Unit). p) (λ x. f) (
 
 pub skip_fails : (p : Set) (f : Form Unit) (l : Left) (e : ReadFault) (o : Outcome Unit) → head_in p l.tokens ≡ true → Fails e (f.parse l) → (skip p f).parse l ≡ o → Fails e o
 skip_fails p f l e o h k so_far = fails_as e (f.parse l) o (λ d q. sym so_far ∙ breaks (λ (x : Unit). p) (λ x. f) (λ (x : Unit). ret tt) tt l d h q) k
-
--- ---- rounds with a form of its own a round
-
-pub rounds_next : {X Y : Type 0} {w : Bool} (p : X → Set) (go : X → Form X) (stop : X → Form Y) (z : X → Shape) → ((x : X) → Law w (go x) (z x)) → ((x : X) → (z x).empty ≡ false) → (x x1 : X) (l l1 : Left) (o : Outcome Y) → head_in (p x) l.tokens ≡ true → (go x).parse l ≡ Ok (x1, l1) → (rounds p go stop x).parse l ≡ o → (rounds p go stop x1).parse l1 ≡ o
-rounds_next p go stop z law some x x1 l l1 o h e so_far = sym (goes_on p go stop (λ x l r e. consumes (go x) (z x) (law x) (some x) l r e) x l x1 l1 h e) ∙ so_far
-
-pub rounds_end : {X Y : Type 0} (p : X → Set) (go : X → Form X) (stop : X → Form Y) (x : X) (l : Left) (o : Outcome Y) → head_in (p x) l.tokens ≡ false → (rounds p go stop x).parse l ≡ o → o ≡ (stop x).parse l
-rounds_end p go stop x l o h so_far = sym so_far ∙ stops p go stop x l h

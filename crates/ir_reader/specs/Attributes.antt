@@ -1,5 +1,5 @@
 -- Notes and attributes.
-use Rattle.std.specs.Prelude.{ℕ, Bool, true, false, ◌||◌, List, [], ◌∷◌, ◌++◌, if◌then◌else◌, codes}
+use Rattle.std.specs.Prelude.{ℕ, ℤ, Bool, true, false, ◌||◌, List, [], ◌∷◌, ◌++◌, if◌then◌else◌, codes}
 use Rattle.std.specs.Str.{bytes_eq}
 use Rattle.ir_lexer.specs.declared.table.Token.{Token}
 use Rattle.ir_lexer.specs.declared.table.Token.TheVariants as tokens
@@ -14,8 +14,6 @@ use Rattle.ir_reader.specs.declared.kinds.Barred.TheVariants as barred
 use Rattle.ir_reader.specs.declared.parts.Attribute.{Attribute}
 use Rattle.ir_reader.specs.declared.parts.Attribute.TheVariants as attributes
 use Rattle.ir_reader.specs.declared.parts.Marks.{Marks}
-use Rattle.ir_reader.specs.declared.parts.Stand.{Stand}
-use Rattle.ir_reader.specs.declared.parts.Stand.TheVariants.{Free, AfterWord, AfterInt}
 use Rattle.ir_reader.specs.Sets.{Set, Other, is_integer_type, among}
 use Rattle.ir_reader.specs.Words.{no_attributes}
 use Rattle.ir_reader.specs.Forms.{Form, ret, token, Verdict, Takes, Refuses, ◌>>=◌, either, rounds}
@@ -66,15 +64,9 @@ attribute_words b = Other (no_attributes b) ∷ []
 abbrev pub attribute_word : Barred → Form Attribute
 attribute_word b = token (attribute_word_of b)
 
-abbrev pub any_int : Form Unit
-any_int = int >>= λ n. ret tt
-
-abbrev pub round_group : Form Unit
-round_group = group 40 41 >>= λ g. ret tt
-
 -- [ INT | GROUP ]
 unfoldable pub attribute_argument : Form Unit
-attribute_argument = either (kind kinds.Int) any_int (either (sign 40) round_group (ret tt))
+attribute_argument = either (kind kinds.Int) (int >>= λ n. ret tt) (either (sign 40) (group 40 41 >>= λ g. ret tt) (ret tt))
 
 -- [ `=` STRING ]
 unfoldable pub attribute_value : Form Unit
@@ -83,13 +75,10 @@ attribute_value = either (sign 61) (expect (sign 61) >>= λ e. text kinds.Str >>
 abbrev pub attribute_set : Barred → Set
 attribute_set b = attribute_words b ++ kind kinds.Str ++ kind kinds.Hash
 
-abbrev pub word_attribute : Barred → Form Attribute
-word_attribute b = attribute_word b >>= λ a. attribute_argument >>= λ e. ret a
-
 -- AWORD [ INT | GROUP ], STRING [ `=` STRING ], or HASH
 unfoldable pub attribute : Barred → Form Attribute
 attribute b =
-    either (attribute_words b) (word_attribute b)
+    either (attribute_words b) (attribute_word b >>= λ a. attribute_argument >>= λ e. ret a)
     (either (kind kinds.Str) (text kinds.Str >>= λ s. attribute_value >>= λ e. ret attributes.Other)
     (text kinds.Hash >>= λ n. ret (attributes.Group n)))
 
@@ -102,26 +91,26 @@ marked m attributes.NoInline = record m { noinline = true }
 marked m (attributes.Group n) = record m { groups = m.groups ++ n ∷ [] }
 marked m attributes.Other = m
 
--- one more attribute
-abbrev pub one_mark : Barred → Marks → Form Marks
-one_mark b m = attribute b >>= λ a. ret (marked m a)
-
 -- { attr }
 unfoldable pub attribute_list : Barred → Marks → Form Marks
-attribute_list b = rounds (λ m. attribute_set b) (one_mark b) (λ m. ret m)
-
-abbrev pub mark_or_note_set : Set
-mark_or_note_set = kind kinds.Meta ++ attribute_set barred.Nothing
-
-abbrev pub mark_or_note : Marks → Form Marks
-mark_or_note m = either (kind kinds.Meta) (note >>= λ n. ret m) (one_mark barred.Nothing m)
+attribute_list b = rounds (λ m. attribute_set b) (λ m. attribute b >>= λ a. ret (marked m a)) (λ m. ret m)
 
 -- { attr | note }
 unfoldable pub attributes_and_notes : Marks → Form Marks
-attributes_and_notes = rounds (λ m. mark_or_note_set) mark_or_note (λ m. ret m)
+attributes_and_notes =
+    rounds (λ m. kind kinds.Meta ++ attribute_set barred.Nothing)
+    (λ m. either (kind kinds.Meta) (note >>= λ n. ret m) (attribute barred.Nothing >>= λ a. ret (marked m a)))
+    (λ m. ret m)
 
 -- ---- an argument's attributes and value: an integer behind a word is the word's, or, where nothing of an argument
 -- follows, the value
+
+pub data Stand : Type 0 where
+  Free : Stand
+  -- behind a word without argument
+  AfterWord : Stand
+  -- behind a word and an integer
+  AfterInt : (n : ℤ) → Stand
 
 abbrev pub not_word : Barred → Form Stand
 not_word b =
@@ -141,18 +130,12 @@ more Free = any_attribute
 more AfterWord = either (kind kinds.Int) (int >>= λ n. ret (AfterInt n)) (either (sign 40) (group 40 41 >>= λ g. ret Free) any_attribute)
 more (AfterInt n) = any_attribute
 
-abbrev pub address_value : Form Operand
-address_value = address >>= λ c. ret (operands.Const c)
-
-abbrev pub gep_value : Limits → Form Operand
-gep_value l = gep l.length l.levels >>= λ c. ret (operands.Const c)
-
 -- a value that is no integer
 abbrev pub no_integer : Limits → Form Operand
 no_integer l =
     either (kind kinds.Local) local_value
-    (either (kind kinds.Global) address_value
-    (either gep_word (gep_value l)
+    (either (kind kinds.Global) (address >>= λ c. ret (operands.Const c))
+    (either gep_word (gep l.length l.levels >>= λ c. ret (operands.Const c))
     (one_word const_words >>= λ c. ret (operands.Const c))))
 
 abbrev pub last : Limits → Stand → Form Operand

@@ -13,4 +13,3 @@ pub mod Bodies
 pub mod Entities
 pub mod Reading
 pub mod Gives
-pub mod Signs

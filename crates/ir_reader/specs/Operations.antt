@@ -38,12 +38,9 @@ abbrev pub listing : {A : Type 0} → Form A → Bool → List A → Form (Bool 
 listing f true xs = note >>= λ n. ret (true, xs)
 listing f false xs = either (kind kinds.Meta) (note >>= λ n. ret (true, xs)) (f >>= λ a. ret (false, xs ++ a ∷ []))
 
-abbrev pub one_listed : {A : Type 0} → Form A → Bool × List A → Form (Bool × List A)
-one_listed f x = expect (sign 44) >>= λ c. listing f x.0 x.1
-
 -- { , item } { , note }
 abbrev pub items_and_notes : {A : Type 0} → Form A → List A → Form (List A)
-items_and_notes f xs = rounds (λ x. sign 44) (one_listed f) (λ x. ret x.1) (false, xs)
+items_and_notes f xs = rounds (λ x. sign 44) (λ x. expect (sign 44) >>= λ c. listing f x.0 x.1) (λ x. ret x.1) (false, xs)
 
 -- [ , align INT ] { , note }
 abbrev pub align_word : Set
@@ -96,14 +93,11 @@ icmp_word = word (codes "icmp")
 abbrev pub samesign : Set
 samesign = word (codes "samesign")
 
-abbrev pub may_samesign : Form Unit
-may_samesign = either samesign (expect samesign) (ret tt)
-
 -- icmp [ samesign ] CC type value , value
 unfoldable pub icmp : Limits → Form Op
 icmp l = do
   w ← expect icmp_word
-  f ← may_samesign
+  f ← either samesign (expect samesign) (ret tt)
   o ← one_word order_words
   t ← type_form l
   a ← value l
@@ -155,20 +149,11 @@ count_and_rest l = do
   a ← align_and_notes l
   ret (Some (record { ty = t; count = pos n }), a)
 
-abbrev pub align_alone : Limits → Form (Option TypedCount × Option ℕ)
-align_alone l = align_or_notes l >>= λ a. ret (None, a)
-
-abbrev pub behind_alloca : Limits → Form (Option TypedCount × Option ℕ)
-behind_alloca l = either (type_set true) (count_and_rest l) (align_alone l)
-
-abbrev pub alloca_rest : Limits → Form (Option TypedCount × Option ℕ)
-alloca_rest l = either (sign 44) (expect (sign 44) >>= λ c. behind_alloca l) (ret (None, None))
-
 unfoldable pub alloca : Limits → Form Op
 alloca l = do
   w ← expect alloca_word
   t ← type_form l
-  x ← alloca_rest l
+  x ← either (sign 44) (expect (sign 44) >>= λ c. either (type_set true) (count_and_rest l) (align_or_notes l >>= λ a. ret (None, a))) (ret (None, None))
   ret (ops.Alloca t x.0 x.1)
 
 abbrev pub load_word : Set
@@ -271,13 +256,10 @@ call_word = word (codes "call")
 abbrev pub call_words : Set
 call_words = tail_word ++ call_word
 
-abbrev pub call_words_form : Form Unit
-call_words_form = either tail_word (expect tail_word >>= λ t. expect call_word) (expect call_word)
-
 -- [ tail | notail ] call { attr }
 unfoldable pub call_head : Form Unit
 call_head = do
-  w ← call_words_form
+  w ← either tail_word (expect tail_word >>= λ t. expect call_word) (expect call_word)
   m ← attribute_list barred.Values no_marks
   ret tt
 

@@ -2,17 +2,11 @@
 #![tactic(auto)]
 
 mod ahead;
-mod allocating;
-mod attributing;
-mod calling;
 mod cursor;
 mod fault;
-mod grouping;
-mod indexing;
 mod kinds;
 mod laws;
 mod naming;
-mod operating;
 mod parts;
 mod reader;
 mod table;
@@ -23,6 +17,3 @@ mod words;
 
 pub use fault::{ReadFault, Which};
 pub use laws::a_text_has_one_module;
-
-#[cfg(test)]
-mod tests;

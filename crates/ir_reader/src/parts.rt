@@ -79,13 +79,3 @@ pub struct Draft {
     /// The last entity is a declaration, behind which attributes and notes may stand.
     pub declares: bool,
 }
-
-/// What stands before an argument's value: an integer behind a word is the word's, or the value.
-#[derive(Clone, Copy)]
-pub enum Stand {
-    Free,
-    /// A word without argument.
-    AfterWord,
-    /// A word and an integer.
-    AfterInt(i128),
-}
