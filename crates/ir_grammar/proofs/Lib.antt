@@ -1,0 +1,16 @@
+pub mod Apart
+pub mod Within
+pub mod FormLaws
+pub mod LawsOfRounds
+pub mod Rules
+pub mod LawsOfTokens
+pub mod LawsOfTypes
+pub mod LawsOfValues
+pub mod LawsOfGroups
+pub mod LawsOfAttributes
+pub mod LawsOfOperations
+pub mod LawsOfBodies
+pub mod LawsOfEntities
+pub mod Exact
+pub mod OneModule
+pub mod Rounds

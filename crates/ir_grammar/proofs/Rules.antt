@@ -1,0 +1,120 @@
+-- The laws of the ways of making forms, with what the parts determine left out.
+use Rattle.std.proofs.Common.{◌≡◌, ℕ, Bool, true, false, ◌||◌, List, [], ◌∷◌, ◌++◌, refl, subst}
+use Rattle.std.proofs.lemmas.List.{append-nil}
+use Rattle.std.specs.Prelude.{if◌then◌else◌}
+use Rattle.std.specs.Str.{bytes_eq}
+use Rattle.ir_lexer.specs.declared.table.Token.{Token}
+use Rattle.ir_lexer.specs.declared.table.Token.TheVariants as tokens
+use Rattle.ir_lexer.specs.declared.table.Spot.{Spot}
+use Rattle.ir_grammar.specs.Pieces.{Piece}
+use Rattle.ir_grammar.specs.Sets.{Set, has, apart}
+use Rattle.ir_grammar.specs.Names.{Names}
+use Rattle.ir_grammar.specs.Forms.{Form, act, ret, token, Verdict, Takes, ◌>>=◌, either, rounds, located}
+use Rattle.ir_grammar.specs.Tokens.{allows, expect, look, words_of, word_of, one_word, many}
+use Rattle.ir_grammar.proofs.FormLaws.{Shape, Heads, Law, law_act, law_token, law_then, law_either, law_located, after_shape, or_shape}
+use Rattle.ir_grammar.proofs.LawsOfRounds.{law_rounds, rounds_shape, rounds_greedy}
+use Rattle.ir_grammar.proofs.Within.{within, within_in, within_head}
+
+abbrev pub spot : Token → Spot
+spot t = record { token = t; place = record { line = 1; column = 1 } }
+
+abbrev pub begins_with : Set → Shape
+begins_with z = record { first = z; greedy = []; empty = false }
+
+abbrev pub goes_on_with : Set → Set → Shape
+goes_on_with z y = record { first = z; greedy = y; empty = false }
+
+-- a form that may be empty
+abbrev pub maybe : Set → Set → Shape
+maybe z y = record { first = z; greedy = y; empty = true }
+
+abbrev pub nothing : Shape
+nothing = record { first = []; greedy = []; empty = true }
+
+pub seq : {A B : Type 0} {w : Bool} {f : Form A} {g : A → Form B} {z y : Shape} → Law w f z → ((a : A) → Law w (g a) y) → apart z.greedy y.first ≡ true → Law w (f >>= g) (after_shape z y)
+seq lf lg e = law_then _ _ _ _ lf lg e
+
+pub or : {A : Type 0} {w : Bool} {f g : Form A} {z y : Shape} → Law w f z → Law w g y → z.empty ≡ false → apart z.first y.first ≡ true → Law w (either z.first f g) (or_shape z y)
+or lf lg some e = law_either _ _ _ _ _ lf lg refl some e
+
+pub again : {X Y : Type 0} {w : Bool} {go : X → Form X} {stop : X → Form Y} {z y : Shape} → ((x : X) → Law w (go x) z) → ((x : X) → Law w (stop x) y) → z.empty ≡ false → apart z.first y.first ≡ true → apart z.greedy z.first ≡ true → apart z.greedy y.first ≡ true → (x : X) → Law w (rounds (λ x. z.first) go stop x) (rounds_shape z y (rounds_greedy z z y))
+again {z = z} {y = y} lg ls some e1 e2 e3 x = law_rounds (λ x. z.first) _ _ (λ x. z) (λ x. y) (rounds_greedy z z y) lg ls (λ x. refl) (λ x. some) (λ x. e1) (λ x x2. e2) (λ x x2. e3) (λ x x2 ts h. h) x
+
+pub done : {A : Type 0} {w : Bool} (a : A) → Law w (ret a) nothing
+done a = law_act (λ s. (a, s))
+
+pub does : {A : Type 0} {w : Bool} (h : Names → A × Names) → Law w (act h) nothing
+does h = law_act h
+
+pub placed : {A : Type 0} {w : Bool} {f : Form A} {z : Shape} → Law w f z → z.empty ≡ false → Law w (located f) z
+placed law some = law_located _ _ law some
+
+test_takes : (b : Bool) (a : Unit) → allows b ≡ Takes a → b ≡ true
+test_takes true a e = refl
+test_takes false a e = absurd cc
+
+pub expects : {w : Bool} (z : Set) (t : Token) → has z t ≡ true → Law w (expect z) (begins_with z)
+expects z t e = law_token _ z (λ q a h. test_takes (has z q) a h) (λ free. (spot t, tt, rw e refl))
+
+pub takes : {A : Type 0} {w : Bool} (v : Token → Verdict A) (z : Set) → ((t : Token) (a : A) → v t ≡ Takes a → has z t ≡ true) → (t : Token) (a : A) → v t ≡ Takes a → Law w (token v) (begins_with z)
+takes v z starts t a e = law_token v z starts (λ free. (spot t, a, e))
+
+-- a word that a table has
+pub looked : {A : Type 0} (table : List (List ℕ × A)) (w : List ℕ) (a : A) → look table w ≡ Takes a → has (words_of table) (tokens.Word w) ≡ true
+looked [] w a e = absurd cc
+looked {A = A} (r ∷ table) w a e = at (bytes_eq w r.0) e (looked table w a)
+  where
+    at : (b : Bool) → (if b then Takes r.1 else look table w) ≡ Takes a → (look table w ≡ Takes a → has (words_of table) (tokens.Word w) ≡ true) → (b || has (words_of table) (tokens.Word w)) ≡ true
+    at true e h = refl
+    at false e h = h e
+
+pub law_one_word : {A : Type 0} {free : Bool} (table : List (List ℕ × A)) (w : List ℕ) (a : A) → look table w ≡ Takes a → Law free (one_word table) (begins_with (words_of table))
+law_one_word {A = A} table w a e = takes (word_of table) (words_of table) starts (tokens.Word w) a e
+  where
+    starts : (t : Token) (a : A) → word_of table t ≡ Takes a → has (words_of table) t ≡ true
+    starts (tokens.Word n) a e = looked table n a e
+    starts (tokens.Int n) a e = absurd cc
+    starts (tokens.Label n) a e = absurd cc
+    starts (tokens.Local n) a e = absurd cc
+    starts (tokens.Global n) a e = absurd cc
+    starts (tokens.Str n) a e = absurd cc
+    starts (tokens.CStr n) a e = absurd cc
+    starts (tokens.Meta n) a e = absurd cc
+    starts (tokens.Hash n) a e = absurd cc
+    starts (tokens.Sign n) a e = absurd cc
+    starts tokens.End a e = absurd cc
+
+-- the same law with other sets, which have all that the sets have
+pub shaped : {A : Type 0} {w : Bool} {f : Form A} {z : Shape} → Law w f z → (first greedy : Set) → within z.first first ≡ true → within z.greedy greedy ≡ true → Law w f (record { first = first; greedy = greedy; empty = z.empty })
+shaped {z = z} law first greedy e g = record {
+  traced = law.traced;
+  heads = λ s u a s' r. at u (law.heads s u a s' r);
+  whole = λ s u a s' rest r h. law.whole s u a s' rest r (within_head z.greedy greedy rest g h);
+  goes = law.goes;
+  sample = law.sample;
+}
+  where
+    at : (u : List Piece) → Heads z u → Heads (record { first = first; greedy = greedy; empty = z.empty }) u
+    at [] h = h
+    at (t ∷ u) h = within_in z.first first t e h
+
+-- the same law with more tokens with which it would go on
+pub going_on : {A : Type 0} {w : Bool} {f : Form A} {z : Shape} → Law w f z → (greedy : Set) → within z.greedy greedy ≡ true → Law w f (record { first = z.first; greedy = greedy; empty = z.empty })
+going_on {z = z} law greedy g = record {
+  traced = law.traced;
+  heads = λ s u a s' r. at u (law.heads s u a s' r);
+  whole = λ s u a s' rest r h. law.whole s u a s' rest r (within_head z.greedy greedy rest g h);
+  goes = law.goes;
+  sample = law.sample;
+}
+  where
+    at : (u : List Piece) → Heads z u → Heads (record { first = z.first; greedy = greedy; empty = z.empty }) u
+    at [] h = h
+    at (t ∷ u) h = h
+
+-- what a form gives any number of times
+pub collect : {A : Type 0} {w : Bool} {f : Form A} {a g : Set} → Law w f (goes_on_with a g) → apart a [] ≡ true → apart g [] ≡ true → apart g a ≡ true → (xs : List A) → Law w (many a f xs) (maybe a (g ++ a))
+collect {A = A} {w = w} {f = f} {a = a} {g = g} law e1 e2 e3 xs = subst (λ q. Law w (many a f xs) (record { first = q; greedy = g ++ a; empty = true })) (append-nil a) (again collects (λ (xs : List A). done xs) refl e1 e3 e2 xs)
+  where
+    collects : (xs : List A) → Law w (f >>= λ x. ret (xs ++ x ∷ [])) (record { first = a; greedy = g; empty = false })
+    collects xs = subst (λ q. Law w (f >>= λ x. ret (xs ++ x ∷ [])) (record { first = q; greedy = g; empty = false })) (append-nil a) (seq law (λ (x : A). done (xs ++ x ∷ [])) e2)

@@ -1,0 +1,14 @@
+pub mod Pieces
+pub mod Sets
+pub mod Names
+pub mod Forms
+pub mod Words
+pub mod Tokens
+pub mod Types
+pub mod Values
+pub mod Groups
+pub mod Attributes
+pub mod Operations
+pub mod Bodies
+pub mod Entities
+pub mod Reading

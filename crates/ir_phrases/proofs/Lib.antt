@@ -1,0 +1,8 @@
+pub mod WordLists
+pub mod Stream
+pub mod Numbered
+pub mod Many
+pub mod TypesRead
+pub mod InitsRead
+pub mod GroupsRead
+pub mod WordsRead
