@@ -42,17 +42,29 @@ source_filename = expect source_word >>= λ w. equals >>= λ e. text kinds.Str >
 abbrev pub target_word : Set
 target_word = word (codes "target")
 
+-- the words after `target`, each with whether it is `datalayout`
+abbrev pub target_words : List (List ℕ × Bool)
+target_words = (codes "datalayout", true) ∷ (codes "triple", false) ∷ []
+
+abbrev pub target_of : Bool → List ℕ → Entity
+target_of true s = entities.Layout s
+target_of false s = entities.Triple s
+
 -- target (datalayout | triple) = STRING
 unfoldable pub target : Form Entity
 target = do
   w ← expect target_word
-  is_layout ← one_word ((codes "datalayout", true) ∷ (codes "triple", false) ∷ [])
+  is_layout ← one_word target_words
   e ← equals
   s ← text kinds.Str
-  ret (if is_layout then entities.Layout s else entities.Triple s)
+  ret (target_of is_layout s)
 
 abbrev pub attributes_word : Set
 attributes_word = word (codes "attributes")
+
+abbrev pub group_of : Bool → List ℕ → Entity
+group_of true n = entities.NoInline n
+group_of false n = entities.Nothing
 
 -- attributes HASH = GROUP
 unfoldable pub attributes : Form Entity
@@ -61,7 +73,7 @@ attributes = do
   n ← text kinds.Hash
   e ← equals
   noinline ← group 123 125
-  ret (if noinline then entities.NoInline n else entities.Nothing)
+  ret (group_of noinline n)
 
 abbrev pub distinct_word : Set
 distinct_word = word (codes "distinct")
@@ -91,13 +103,27 @@ abbrev pub global_words : List (List ℕ × Bool)
 global_words = (codes "internal", true) ∷ (codes "private", true) ∷ (codes "dso_local", false) ∷ (codes "dso_preemptable", false) ∷ (codes "default", false)
     ∷ (codes "hidden", false) ∷ (codes "protected", false) ∷ (codes "unnamed_addr", false) ∷ (codes "local_unnamed_addr", false) ∷ []
 
+abbrev pub one_linkage : Bool → Form Bool
+one_linkage b = one_word global_words >>= λ i. ret (b || i)
+
 -- { gword }
 unfoldable pub linkage : Bool → Form Bool
-linkage = rounds (λ b. words_of global_words) (λ b. one_word global_words >>= λ i. ret (b || i)) (λ b. ret b)
+linkage = rounds (λ b. words_of global_words) one_linkage (λ b. ret b)
+
+-- the words before a global's type, each with whether the global is constant
+abbrev pub storage_words : List (List ℕ × Bool)
+storage_words = (codes "global", false) ∷ (codes "constant", true) ∷ []
+
+-- `align` INT, or a note where this is the `align` so far
+abbrev pub align_or_note : Limits → Option ℕ → Form (Option ℕ)
+align_or_note l a = either align_word (expect align_word >>= λ w. number l.length >>= λ n. ret (Some n)) (note >>= λ n. ret a)
+
+abbrev pub one_global_end : Limits → Option ℕ → Form (Option ℕ)
+one_global_end l a = expect (sign 44) >>= λ c. align_or_note l a
 
 -- { , gend }; the last `align` counts
 unfoldable pub global_end : Limits → Option ℕ → Form (Option ℕ)
-global_end l = rounds (λ a. sign 44) (λ a. expect (sign 44) >>= λ c. either align_word (expect align_word >>= λ w. number l.length >>= λ n. ret (Some n)) (note >>= λ n. ret a)) (λ a. ret a)
+global_end l = rounds (λ a. sign 44) (one_global_end l) (λ a. ret a)
 
 -- GLOBAL = { gword } (global | constant) type init { , gend }
 unfoldable pub global_var : Limits → Form Entity
@@ -105,7 +131,7 @@ global_var l = do
   g ← located global
   e ← equals
   i ← linkage false
-  c ← one_word ((codes "global", false) ∷ (codes "constant", true) ∷ [])
+  c ← one_word storage_words
   t ← type_form l
   v ← init l
   a ← global_end l None

@@ -1,4 +1,4 @@
-ghost use Rattle.std.specs.Prelude.{◌≡◌, [], ◌∷◌, ◌++◌, None, length, position, take, IfOk, OnOk};
+ghost use Rattle.std.specs.Prelude.{◌≡◌, [], ◌∷◌, ◌++◌, None, length, map, position, take, IfOk, OnOk};
 ghost use Rattle.std.specs.Str.{bytes_eq};
 ghost use Rattle.ir_grammar.specs.Names.{numbered};
 
@@ -66,12 +66,30 @@ impl Table {
         Ok(at)
     }
 
+    /// The names in their order.
+    pub fn names(&self, alloc: Global) -> Result<Texts, NoMemory>
+        ensures { IfOk result (λ ts. ts ≡ self.now) }
+    {
+        texts_of(alloc, self.set.as_slice())
+    }
+
     /// Keeps the first names alone.
     pub fn truncate(&mut self, len: usize)
         ensures { self.new ≡ take len self.old }
     {
         self.set.truncate(len);
     }
+}
+
+/// Byte strings as texts.
+fn texts_of(alloc: Global, names: &[Vec<u8>]) -> Result<Texts, NoMemory>
+    ensures { IfOk result (λ ts. ts ≡ map (λ v. v.items) names.now) }
+{
+    let mut texts = Texts::new(alloc);
+    for name in names {
+        texts.push(Text::from_slice(alloc, name.as_slice())?)?;
+    }
+    Ok(texts)
 }
 
 /// A position as 32 bits; no text has more names than bytes.
