@@ -248,20 +248,30 @@ module_of d s = record {
   triple = d.triple;
 }
 
+abbrev pub rest_of_note_or_metadata : Draft → Form Draft
+rest_of_note_or_metadata d = either (kind kinds.Meta ++ sign 33) (note_rest >>= λ n. ret d) (metadata_rest >>= λ r. ret (added d entities.Nothing))
+
 -- Behind a declaration a META begins a note of it, or with `=` a metadata entity
 unfoldable pub note_or_metadata : Draft → Form Draft
-note_or_metadata d = meta >>= λ m. either (kind kinds.Meta ++ sign 33) (note_rest >>= λ n. ret d) (metadata_rest >>= λ r. ret (added d entities.Nothing))
+note_or_metadata d = meta >>= λ m. rest_of_note_or_metadata d
+
+-- the entities with the next one, which begins with no META
+abbrev pub with_other_entity : Limits → Draft → Form Draft
+with_other_entity l d = other_entity l (length d.definitions) >>= λ e. ret (added d e)
+
+abbrev pub with_entity : Limits → Draft → Form Draft
+with_entity l d = entity l (length d.definitions) >>= λ e. ret (added d e)
 
 -- Behind a declaration: an attribute or a note of it, or the next entity
 unfoldable pub behind_declaration : Limits → Draft → Form Draft
 behind_declaration l d =
     either (kind kinds.Meta) (note_or_metadata d)
     (either (attribute_set barred.Nothing) (attribute barred.Nothing >>= λ a. ret d)
-    (other_entity l (length d.definitions) >>= λ e. ret (added d e)))
+    (with_other_entity l d))
 
 abbrev pub next_entity : Limits → Draft → Bool → Form Draft
 next_entity l d true = behind_declaration l d
-next_entity l d false = entity l (length d.definitions) >>= λ e. ret (added d e)
+next_entity l d false = with_entity l d
 
 abbrev pub next_set : Bool → Set
 next_set true = attribute_set barred.Nothing ++ entity_set

@@ -1,6 +1,7 @@
-ghost use Rattle.std.specs.Prelude.{◌≡◌, [], ◌∷◌, ◌++◌, None, length, map, position, take, IfOk, OnOk};
+ghost use Rattle.std.specs.Prelude.{◌≡◌, ℕ, List, [], ◌∷◌, ◌++◌, None, length, map, position, take, IfOk, OnOk};
 ghost use Rattle.std.specs.Str.{bytes_eq};
 ghost use Rattle.ir_grammar.specs.Names.{numbered};
+ghost use Rattle.ir_grammar.specs.Sets.{among};
 
 use indexmap::IndexSet;
 use ir_core::Texts;
@@ -64,6 +65,24 @@ impl Table {
         let at = short(self.len())?;
         self.add(alloc, name)?;
         Ok(at)
+    }
+
+    /// Does the name appear?
+    pub fn has(&self, name: &[u8]) -> bool
+        ensures { result ≡ among self.now name.now }
+    {
+        self.find(name).is_some()
+    }
+
+    /// The table of these names.
+    pub fn of(alloc: Global, names: &[Text]) -> Result<Table, NoMemory>
+        ensures { IfOk result (λ t. (name : List ℕ) → among t name ≡ among names.now name) }
+    {
+        let mut table = Table::new(alloc);
+        for name in names {
+            table.see(alloc, name.as_slice())?;
+        }
+        Ok(table)
     }
 
     /// The names in their order.

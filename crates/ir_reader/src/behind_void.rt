@@ -1,13 +1,22 @@
-ghost use Rattle.std.specs.Prelude.{◌≡◌, ◌∷◌, ◌++◌, [], IfOk};
+ghost use Rattle.std.specs.Prelude.{◌≡◌, ◌∷◌, ◌++◌, [], Some, IfOk};
+ghost use Rattle.ir_core.specs.declared.func.Block.{Block};
+ghost use Rattle.ir_grammar.specs.declared.kinds.Kind.TheVariants as kinds;
+ghost use Rattle.ir_grammar.specs.Sets.{head_in};
+ghost use Rattle.ir_grammar.specs.Forms.{either};
+ghost use Rattle.ir_grammar.specs.Tokens.{stated, sign as sign_set, kind as kind_set};
+ghost use Rattle.ir_grammar.specs.Bodies.{settled, begun, labelled, local_begins, local_settles, local_behind, gep_begins, gep_settles, gep_behind, plain_value_set, plain_value, value_behind, lines_behind, other_lines, other_unlabelled, other_block, behind_void, next_set};
+ghost use Rattle.ir_phrases.specs.Gives.{Gives};
 
 use crate::body::{finish, grown, labelled, lines, with_instr};
 use crate::ending::is_end;
 use crate::indexing::gep_op_rest;
 use crate::lining::{instr_at, is_other_line, op, other_line};
-use ir_core::{Block, Blocks, Const, End, Instr, Instrs, IrType, LocalId, Op, Operand, TypedOperand};
+use ir_core::{
+    Block, Blocks, Const, End, Instr, Instrs, IrType, LocalId, Op, Operand, TypedOperand,
+};
 use ir_grammar::{Kind, Lines, Progress};
-use ir_phrases::{ReadFault, Reader};
-use oi_base::{NoMemory, Place};
+use ir_phrases::{MOST_LEVELS, ReadFault, Reader};
+use oi_base::{NoMemory, Place, Text};
 
 /// The blocks with one more, which ends in `ret void` and this value.
 fn settled(blocks: Blocks, block: Block, value: Operand) -> Result<Progress, NoMemory>
@@ -112,11 +121,7 @@ fn local_behind(
     behind_local(reader, blocks, block, place, name)
 }
 
-fn gep_begins(
-    reader: &mut Reader<'_>,
-    blocks: Blocks,
-    place: Place,
-) -> Result<Progress, ReadFault>
+fn gep_begins(reader: &mut Reader<'_>, blocks: Blocks, place: Place) -> Result<Progress, ReadFault>
     ensures { Gives result reader.new ((gep_begins stated blocks place).parse reader.old) }
 {
     let label = reader.define_next()?;
@@ -125,14 +130,10 @@ fn gep_begins(
     begun(reader, blocks, place, label, result, op)
 }
 
-fn gep_settles(
-    reader: &mut Reader<'_>,
-    blocks: Blocks,
-    block: Block,
-) -> Result<Progress, ReadFault>
+fn gep_settles(reader: &mut Reader<'_>, blocks: Blocks, block: Block) -> Result<Progress, ReadFault>
     ensures { Gives result reader.new ((gep_settles stated blocks block).parse reader.old) }
 {
-    let value = reader.gep_rest_stated()?;
+    let value = reader.gep_rest(MOST_LEVELS)?;
     reader.notes()?;
     Ok(settled(blocks, block, Operand::Const(value))?)
 }
@@ -155,11 +156,7 @@ fn behind_gep(
 /// Behind `ret void`: a `getelementptr` is its value where a bracket follows, else the first instruction of the next
 /// block.
 #[tactic(auto, unfolding(ir_grammar::specs::Bodies::gep_behind))]
-fn gep_behind(
-    reader: &mut Reader<'_>,
-    blocks: Blocks,
-    block: Block,
-) -> Result<Progress, ReadFault>
+fn gep_behind(reader: &mut Reader<'_>, blocks: Blocks, block: Block) -> Result<Progress, ReadFault>
     ensures { Gives result reader.new ((gep_behind stated blocks block).parse reader.old) }
 {
     let place = reader.place();

@@ -1,8 +1,10 @@
 ghost use Rattle.std.specs.Prelude.{◌≡◌, ◌∷◌, ◌++◌, [], IfOk};
 ghost use Rattle.ir_grammar.specs.Sets.{head_in};
-ghost use Rattle.ir_grammar.specs.Forms.{◌>>=◌, either};
-ghost use Rattle.ir_grammar.specs.Tokens.{stated};
+ghost use Rattle.ir_grammar.specs.declared.kinds.Kind.TheVariants as kinds;
+ghost use Rattle.ir_grammar.specs.Forms.{ret, ◌>>=◌, either};
+ghost use Rattle.ir_grammar.specs.Tokens.{stated, kind as kind_set};
 ghost use Rattle.ir_grammar.specs.Bodies.{with_instr, code, finish, lines, labelled, unlabelled, block_of, grown, block, block_set};
+ghost use Rattle.ir_grammar.specs.Operations.{instr};
 ghost use Rattle.ir_phrases.specs.Gives.{Gives};
 
 use crate::ending::{end_form, is_end};

@@ -1,6 +1,4 @@
-ghost use Rattle.std.specs.Prelude.{◌≡◌, ◌+◌, Some, [], ◌∷◌, ◌++◌, length};
-ghost use Rattle.ir_core.specs.declared.op.TypedOperand.{TypedOperand};
-ghost use Rattle.ir_core.specs.declared.func.Param.{Param};
+ghost use Rattle.std.specs.Prelude.{◌≡◌, ◌+◌, Some, [], ◌∷◌, ◌++◌, true};
 ghost use Rattle.ir_grammar.specs.declared.which.Which.TheVariants as limits;
 ghost use Rattle.ir_grammar.specs.Forms.{ret, ◌>>=◌, choose, either};
 ghost use Rattle.ir_grammar.specs.Types.{type_set};

@@ -1,10 +1,9 @@
-ghost use Rattle.std.specs.Prelude.{◌≡◌, false, None, [], codes};
-ghost use Rattle.ir_core.specs.declared.op.End.TheVariants as ends;
+ghost use Rattle.std.specs.Prelude.{◌≡◌, true, []};
 ghost use Rattle.ir_grammar.specs.Sets.{head_in};
-ghost use Rattle.ir_grammar.specs.Forms.{ret, ◌>>=◌, either};
+ghost use Rattle.ir_grammar.specs.Forms.{either};
 ghost use Rattle.ir_grammar.specs.Types.{type_set};
-ghost use Rattle.ir_grammar.specs.Tokens.{stated, sign as sign_set, many};
-ghost use Rattle.ir_grammar.specs.Bodies.{label, void_word, behind_void_word, void_end, value_end, ret_end, cond_end, label_end, br_end, switch_case, switch_end, unreachable_end, closed_end, end_form, end_set};
+ghost use Rattle.ir_grammar.specs.Tokens.{stated, many};
+ghost use Rattle.ir_grammar.specs.Bodies.{label, label_word, void_word, behind_void_word, void_end, value_end, ret_end, cond_end, label_end, br_end, switch_case, switch_end, unreachable_end, closed_end, end_form, end_set};
 ghost use Rattle.ir_phrases.specs.Gives.{Gives};
 
 use ir_core::{End, LocalId, SwitchCase, SwitchCases, TypedOperand};
@@ -94,7 +93,7 @@ fn cond_end(reader: &mut Reader<'_>) -> Result<End, ReadFault>
 }
 
 fn label_or_cond(reader: &mut Reader<'_>) -> Result<End, ReadFault>
-    ensures { Gives result reader.new ((either (word (codes "label")) label_end (cond_end stated)).parse reader.old) }
+    ensures { Gives result reader.new ((either label_word label_end (cond_end stated)).parse reader.old) }
 {
     if reader.is_word(b"label") {
         return label_end(reader);

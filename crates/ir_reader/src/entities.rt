@@ -1,8 +1,8 @@
-ghost use Rattle.std.specs.Prelude.{◌≡◌, ◌+◌, ◌||◌, true, false, Some, None, codes};
+ghost use Rattle.std.specs.Prelude.{◌≡◌, false, None};
 ghost use Rattle.ir_grammar.specs.Sets.{head_in};
-ghost use Rattle.ir_grammar.specs.Forms.{token, ret, ◌>>=◌, either, rounds};
-ghost use Rattle.ir_grammar.specs.Tokens.{expect, sign as sign_set, words_of, one_word, look, skip, is_past, stated};
-ghost use Rattle.ir_grammar.specs.Entities.{source_filename, target_words, target, attributes, distinct_word, metadata_rest, metadata, type_def, global_words, linkage, one_linkage, storage_words, one_global_end, global_end, global_var};
+ghost use Rattle.ir_grammar.specs.Forms.{ret, ◌>>=◌, either};
+ghost use Rattle.ir_grammar.specs.Tokens.{expect, sign as sign_set, words_of, one_word, look, stated};
+ghost use Rattle.ir_grammar.specs.Entities.{source_filename, target_words, target, attributes, distinct_word, metadata_rest, metadata, type_def, global_words, linkage, storage_words, align_or_note, global_end, global_var};
 ghost use Rattle.ir_phrases.specs.Gives.{Gives, IsVerdict};
 
 use ir_core::{GlobalVar, TypeDef};

@@ -1,12 +1,14 @@
-ghost use Rattle.std.specs.Prelude.{◌≡◌, ◌+◌};
-ghost use Rattle.ir_grammar.specs.Forms.{token};
+ghost use Rattle.std.specs.Prelude.{◌≡◌};
+ghost use Rattle.ir_grammar.specs.declared.kinds.Barred.TheVariants as barred;
+ghost use Rattle.ir_grammar.specs.Forms.{ret, token, ◌>>=◌};
+ghost use Rattle.ir_grammar.specs.Attributes.{no_marks, attribute_list};
 ghost use Rattle.ir_grammar.specs.Tokens.{expect, skip, stated};
 ghost use Rattle.ir_grammar.specs.Entities.{define_of, without_groups, definition, before_name, declaration};
 ghost use Rattle.ir_phrases.specs.Gives.{Gives};
 
 use crate::blocks::body;
 use crate::bracketing::params;
-use ir_core::{Declaration, Func};
+use ir_core::{Declaration, Func, Texts};
 use ir_grammar::{Barred, Definition, Entity, Marks, Which};
 use ir_phrases::{ReadFault, Reader};
 
