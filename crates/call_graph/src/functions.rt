@@ -1,4 +1,4 @@
-ghost use Rattle.std.specs.Prelude.{◌≡◌, ◌≢◌, ◌≤◌, ℕ, length, OnOk, IfOk};
+ghost use Rattle.std.specs.Prelude.{◌≡◌, ◌≢◌, ℕ, OnOk, IfOk};
 ghost use Rattle.call_graph.specs.Sites.{func_id};
 ghost use Rattle.call_graph.specs.Table.{number_at, Knows};
 
@@ -33,7 +33,6 @@ impl<'a> Model for Functions<'a> {
 
 impl<'a> Functions<'a> {
     pub fn of(alloc: Global, funcs: &'a [Func]) -> Result<Functions<'a>, NoMemory>
-        requires { length funcs.now ≤ 4096 }
         ensures { IfOk result (λ fs. fs ≡ funcs.now) }
     {
         let numbers = numbers(alloc, funcs)?;
@@ -58,17 +57,26 @@ impl<'a> Functions<'a> {
 }
 
 /// The table of the positions.
-fn numbers(alloc: Global, funcs: &[Func]) -> Result<Vec<Option<FuncId>>, AllocError>
-    requires { length funcs.now ≤ 4096 }
+fn numbers(alloc: Global, funcs: &[Func]) -> Result<Vec<Option<FuncId>>, NoMemory>
     ensures { IfOk result (λ table. Knows table.items funcs.now) }
 {
     let mut table = Vec::new(alloc);
     let mut at = funcs.len();
     while at > 0 {
         at -= 1;
-        put(&mut table, funcs[at].name, FuncId(at as u32))?;
+        put(&mut table, funcs[at].name, func_id(at)?)?;
     }
     Ok(table)
+}
+
+/// The position as a number; there is no room for more functions than numbers.
+pub fn func_id(at: usize) -> Result<FuncId, NoMemory>
+    ensures { IfOk result (λ f. f ≡ record { 0 = at }) }
+{
+    match u32::try_from(at) {
+        Ok(n) => Ok(FuncId(n)),
+        Err(_) => Err(NoMemory),
+    }
 }
 
 /// Writes the position of one name.

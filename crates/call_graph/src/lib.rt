@@ -13,4 +13,6 @@ mod tests;
 mod walk;
 
 pub use calls::{CallGraph, graph};
+pub use functions::Functions;
 pub use laws::candidates_form_no_cycle;
+pub use sites::{Site, sites_of};

@@ -1,7 +1,7 @@
-ghost use Rattle.std.specs.Prelude.{◌≡◌, ◌++◌, ◌≤◌, length, OnOk, IfOk};
+ghost use Rattle.std.specs.Prelude.{◌≡◌, ◌++◌, OnOk, IfOk};
 ghost use Rattle.call_graph.specs.Sites.{site_of, block_sites, func_sites, sites_from, all_sites};
 
-use crate::functions::Functions;
+use crate::functions::{Functions, func_id};
 use ir_core::{Block, Func, Instr, Op};
 use oi_base::{FuncId, NoMemory, Place};
 use std::alloc::Global;
@@ -16,12 +16,11 @@ pub struct Site {
 
 /// The sites of all functions, in text order.
 pub fn sites_of(alloc: Global, functions: &Functions<'_>) -> Result<Vec<Site>, NoMemory>
-    requires { length functions.now ≤ 4096 }
     ensures { IfOk result (λ sites. sites.items ≡ all_sites functions.now) }
 {
     let mut sites = Vec::new(alloc);
     for (f, func) in functions.as_slice().iter().enumerate() {
-        push_func_sites(functions, FuncId(f as u32), func, &mut sites)?;
+        push_func_sites(functions, func_id(f)?, func, &mut sites)?;
     }
     Ok(sites)
 }

@@ -110,8 +110,11 @@ abbrev pub with_instr : List Instr → Option Instr → List Instr
 with_instr is None = is
 with_instr is (Some i) = is ++ i ∷ []
 
+abbrev pub one_more_instr : Limits → List Instr → Form (List Instr)
+one_more_instr l is = instr l >>= λ i. ret (with_instr is i)
+
 unfoldable pub code : Limits → List Instr → Form (List Instr)
-code l = rounds (λ is. line_set) (λ is. instr l >>= λ i. ret (with_instr is i)) (λ is. ret is)
+code l = rounds (λ is. line_set) (one_more_instr l) (λ is. ret is)
 
 -- the terminator of a block with this label and these instructions
 unfoldable pub finish : Limits → LocalId → List Instr → Form Lines

@@ -249,14 +249,22 @@ store l = do
 abbrev pub next_item : {A : Type 0} → Limits → Form A → List A → Form A
 next_item l f xs = choose (is_past l.params (length xs + 1)) (over limits.Params) f
 
-abbrev pub more_items : {A : Type 0} → Limits → Form A → List A → Form (List A)
-more_items l f = rounds (λ xs. sign 44) (λ xs. expect (sign 44) >>= λ c. next_item l f xs >>= λ x. ret (xs ++ x ∷ [])) (λ xs. ret xs)
+-- , item
+abbrev pub one_more_item : {A : Type 0} → Limits → Form A → List A → Form (List A)
+one_more_item l f xs = expect (sign 44) >>= λ c. next_item l f xs >>= λ x. ret (xs ++ x ∷ [])
 
--- `(` [ item { , item } ] `)`, where an item begins with a type
+abbrev pub more_items : {A : Type 0} → Limits → Form A → List A → Form (List A)
+more_items l f = rounds (λ xs. sign 44) (one_more_item l f) (λ xs. ret xs)
+
+-- [ item { , item } ], where an item begins with a type
+abbrev pub item_list : {A : Type 0} → Limits → Form A → Form (List A)
+item_list l f = either (type_set true) (f >>= λ a. more_items l f (a ∷ [])) (ret [])
+
+-- `(` [ item { , item } ] `)`
 abbrev pub in_brackets : {A : Type 0} → Limits → Form A → Form (List A)
 in_brackets l f = do
   open1 ← expect (sign 40)
-  xs ← either (type_set true) (f >>= λ a. more_items l f (a ∷ [])) (ret [])
+  xs ← item_list l f
   close1 ← expect (sign 41)
   ret xs
 

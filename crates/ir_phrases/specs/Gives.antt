@@ -50,6 +50,11 @@ abbrev pub Gives : {A : Type 0} → Result A ReadFault → Left → Outcome A �
 Gives (Ok a) new o = o ≡ Ok (a, new)
 Gives (Err e) new o = Fails e o
 
+-- the same, whatever is left
+abbrev pub GivesAll : {A : Type 0} → Result A ReadFault → Outcome A → Type 0
+GivesAll (Ok a) o = (l : Left) × (o ≡ Ok (a, l))
+GivesAll (Err e) o = Fails e o
+
 -- the reader has passed what stood next, unless memory ran out
 abbrev pub Passes : Result Unit ReadFault → Left → Left → Type 0
 Passes (Ok u) old new = new ≡ record old { tokens = rest_of old.tokens }

@@ -47,15 +47,15 @@ fn begun(
     blocks: Blocks,
     place: Place,
     label: LocalId,
-    result: LocalId,
+    register: LocalId,
     op: Op,
 ) -> Result<Progress, ReadFault>
-    ensures { Gives result reader.new ((begun stated blocks place (label, (result, op))).parse reader.old) }
+    ensures { Gives result reader.new ((begun stated blocks place (label, (register, op))).parse reader.old) }
 {
     let mut code = Instrs::new(reader.alloc());
     code.push(Instr {
         place,
-        result: Some(result),
+        result: Some(register),
         op,
     })?;
     let lines = lines(reader, label, code)?;
@@ -73,9 +73,9 @@ fn local_begins(
 {
     reader.sign(b'=')?;
     let label = reader.define_next()?;
-    let result = reader.define(name)?;
+    let register = reader.define(name)?;
     let op = op(reader)?;
-    begun(reader, blocks, place, label, result, op)
+    begun(reader, blocks, place, label, register, op)
 }
 
 fn local_settles(
@@ -125,9 +125,9 @@ fn gep_begins(reader: &mut Reader<'_>, blocks: Blocks, place: Place) -> Result<P
     ensures { Gives result reader.new ((gep_begins stated blocks place).parse reader.old) }
 {
     let label = reader.define_next()?;
-    let result = reader.define_next()?;
+    let register = reader.define_next()?;
     let op = gep_op_rest(reader)?;
-    begun(reader, blocks, place, label, result, op)
+    begun(reader, blocks, place, label, register, op)
 }
 
 fn gep_settles(reader: &mut Reader<'_>, blocks: Blocks, block: Block) -> Result<Progress, ReadFault>

@@ -24,17 +24,19 @@ fn goes_on(reader: &Reader<'_>, waits: &Option<Block>) -> bool
 fn next_block(reader: &mut Reader<'_>, progress: Progress) -> Result<Progress, ReadFault>
     ensures { Gives result reader.new ((next_block stated progress.done progress.waits).parse reader.old) }
 {
-    match progress.waits {
-        Some(waiting) => behind_void(reader, progress.done, waiting),
-        None => block(reader, progress.done),
+    let Progress { done, waits } = progress;
+    match waits {
+        Some(waiting) => behind_void(reader, done, waiting),
+        None => block(reader, done),
     }
 }
 
 fn all_blocks(progress: Progress) -> Result<Blocks, NoMemory>
     ensures { IfOk result (λ bs. bs ≡ all_blocks progress.done progress.waits) }
 {
-    let mut done = progress.done;
-    if let Some(block) = progress.waits {
+    let Progress { done, waits } = progress;
+    let mut done = done;
+    if let Some(block) = waits {
         done.push(block)?;
     }
     Ok(done)

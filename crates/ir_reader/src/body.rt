@@ -1,10 +1,9 @@
 ghost use Rattle.std.specs.Prelude.{◌≡◌, ◌∷◌, ◌++◌, [], IfOk};
 ghost use Rattle.ir_grammar.specs.Sets.{head_in};
 ghost use Rattle.ir_grammar.specs.declared.kinds.Kind.TheVariants as kinds;
-ghost use Rattle.ir_grammar.specs.Forms.{ret, ◌>>=◌, either};
+ghost use Rattle.ir_grammar.specs.Forms.{either};
 ghost use Rattle.ir_grammar.specs.Tokens.{stated, kind as kind_set};
-ghost use Rattle.ir_grammar.specs.Bodies.{with_instr, code, finish, lines, labelled, unlabelled, block_of, grown, block, block_set};
-ghost use Rattle.ir_grammar.specs.Operations.{instr};
+ghost use Rattle.ir_grammar.specs.Bodies.{with_instr, one_more_instr, code, finish, lines, labelled, unlabelled, block_of, grown, block, block_set};
 ghost use Rattle.ir_phrases.specs.Gives.{Gives};
 
 use crate::ending::{end_form, is_end};
@@ -26,7 +25,7 @@ pub fn with_instr(code: Instrs, instr: Option<Instr>) -> Result<Instrs, NoMemory
 }
 
 fn one_more_instr(reader: &mut Reader<'_>, code: Instrs) -> Result<Instrs, ReadFault>
-    ensures { Gives result reader.new ((instr stated >>= λ i. ret (with_instr code i)).parse reader.old) }
+    ensures { Gives result reader.new ((one_more_instr stated code).parse reader.old) }
 {
     let next = instr(reader)?;
     Ok(with_instr(code, next)?)
@@ -34,10 +33,10 @@ fn one_more_instr(reader: &mut Reader<'_>, code: Instrs) -> Result<Instrs, ReadF
 
 /// Instructions, behind those that are there.
 #[tactic(auto, unfolding(ir_grammar::specs::Bodies::code))]
-fn code(reader: &mut Reader<'_>, code: Instrs) -> Result<Instrs, ReadFault>
-    ensures { Gives result reader.new ((code stated code).parse reader.old) }
+fn code(reader: &mut Reader<'_>, before: Instrs) -> Result<Instrs, ReadFault>
+    ensures { Gives result reader.new ((code stated before).parse reader.old) }
 {
-    let mut code = code;
+    let mut code = before;
     while is_line(reader) {
         code = one_more_instr(reader, code)?;
     }

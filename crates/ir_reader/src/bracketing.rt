@@ -1,10 +1,9 @@
-ghost use Rattle.std.specs.Prelude.{◌≡◌, ◌+◌, Some, [], ◌∷◌, ◌++◌, true};
+ghost use Rattle.std.specs.Prelude.{◌≡◌, ◌+◌, Some};
 ghost use Rattle.ir_grammar.specs.declared.which.Which.TheVariants as limits;
-ghost use Rattle.ir_grammar.specs.Forms.{ret, ◌>>=◌, choose, either};
-ghost use Rattle.ir_grammar.specs.Types.{type_set};
-ghost use Rattle.ir_grammar.specs.Tokens.{is_past, over, expect, sign as sign_set, stated};
+ghost use Rattle.ir_grammar.specs.Forms.{choose};
+ghost use Rattle.ir_grammar.specs.Tokens.{is_past, over, stated};
 ghost use Rattle.ir_grammar.specs.Attributes.{argument};
-ghost use Rattle.ir_grammar.specs.Operations.{next_item, more_items, in_brackets, arguments};
+ghost use Rattle.ir_grammar.specs.Operations.{one_more_item, more_items, item_list, in_brackets, arguments};
 ghost use Rattle.ir_grammar.specs.Entities.{param_name, param};
 ghost use Rattle.ir_phrases.specs.Gives.{Gives};
 
@@ -29,7 +28,7 @@ fn one_more_argument(
     reader: &mut Reader<'_>,
     arguments: TypedOperands,
 ) -> Result<TypedOperands, ReadFault>
-    ensures { Gives result reader.new ((expect (sign_set 44) >>= λ c. next_item stated (argument stated) arguments >>= λ x. ret (arguments ++ x ∷ [])).parse reader.old) }
+    ensures { Gives result reader.new ((one_more_item stated (argument stated) arguments).parse reader.old) }
 {
     let mut arguments = arguments;
     reader.sign(b',')?;
@@ -54,7 +53,7 @@ fn more_arguments(
 
 /// [ argument { `,` argument } ]
 fn argument_list(reader: &mut Reader<'_>) -> Result<TypedOperands, ReadFault>
-    ensures { Gives result reader.new ((either (type_set true) (argument stated >>= λ a. more_items stated (argument stated) (a ∷ [])) (ret [])).parse reader.old) }
+    ensures { Gives result reader.new ((item_list stated (argument stated)).parse reader.old) }
 {
     let mut arguments = TypedOperands::new(reader.alloc());
     if !reader.is_type() {
@@ -110,7 +109,7 @@ fn next_param(reader: &mut Reader<'_>, so_many: usize) -> Result<Param, ReadFaul
 
 /// `,` and one more parameter.
 fn one_more_param(reader: &mut Reader<'_>, params: Params) -> Result<Params, ReadFault>
-    ensures { Gives result reader.new ((expect (sign_set 44) >>= λ c. next_item stated (param stated) params >>= λ x. ret (params ++ x ∷ [])).parse reader.old) }
+    ensures { Gives result reader.new ((one_more_item stated (param stated) params).parse reader.old) }
 {
     let mut params = params;
     reader.sign(b',')?;
@@ -132,7 +131,7 @@ fn more_params(reader: &mut Reader<'_>, params: Params) -> Result<Params, ReadFa
 
 /// [ parameter { `,` parameter } ]
 fn param_list(reader: &mut Reader<'_>) -> Result<Params, ReadFault>
-    ensures { Gives result reader.new ((either (type_set true) (param stated >>= λ a. more_items stated (param stated) (a ∷ [])) (ret [])).parse reader.old) }
+    ensures { Gives result reader.new ((item_list stated (param stated)).parse reader.old) }
 {
     let mut params = Params::new(reader.alloc());
     if !reader.is_type() {

@@ -1,8 +1,8 @@
 ghost use Rattle.std.specs.Prelude.{◌≡◌, false, None};
 ghost use Rattle.ir_grammar.specs.Sets.{head_in};
-ghost use Rattle.ir_grammar.specs.Forms.{ret, ◌>>=◌, either};
-ghost use Rattle.ir_grammar.specs.Tokens.{expect, sign as sign_set, words_of, one_word, look, stated};
-ghost use Rattle.ir_grammar.specs.Entities.{source_filename, target_words, target, attributes, distinct_word, metadata_rest, metadata, type_def, global_words, linkage, storage_words, align_or_note, global_end, global_var};
+ghost use Rattle.ir_grammar.specs.Forms.{ret, either};
+ghost use Rattle.ir_grammar.specs.Tokens.{expect, words_of, one_word, look, stated};
+ghost use Rattle.ir_grammar.specs.Entities.{source_filename, target_words, target, attributes, distinct_word, metadata_rest, metadata, type_def, global_words, linkage, storage_words, align_or_note, one_global_end, global_end, global_var};
 ghost use Rattle.ir_phrases.specs.Gives.{Gives, IsVerdict};
 
 use ir_core::{GlobalVar, TypeDef};
@@ -217,7 +217,7 @@ fn align_or_note(reader: &mut Reader<'_>, align: Option<u32>) -> Result<Option<u
 }
 
 fn next_global_end(reader: &mut Reader<'_>, align: Option<u32>) -> Result<Option<u32>, ReadFault>
-    ensures { Gives result reader.new ((expect (sign_set 44) >>= λ c. align_or_note stated align).parse reader.old) }
+    ensures { Gives result reader.new ((one_global_end stated align).parse reader.old) }
 {
     reader.sign(b',')?;
     align_or_note(reader, align)

@@ -1,7 +1,5 @@
 ghost use Rattle.std.specs.Prelude.{◌≡◌};
-ghost use Rattle.ir_grammar.specs.declared.kinds.Barred.TheVariants as barred;
-ghost use Rattle.ir_grammar.specs.Forms.{ret, token, ◌>>=◌};
-ghost use Rattle.ir_grammar.specs.Attributes.{no_marks, attribute_list};
+ghost use Rattle.ir_grammar.specs.Forms.{token};
 ghost use Rattle.ir_grammar.specs.Tokens.{expect, skip, stated};
 ghost use Rattle.ir_grammar.specs.Entities.{define_of, without_groups, definition, before_name, declaration};
 ghost use Rattle.ir_phrases.specs.Gives.{Gives};
@@ -11,6 +9,7 @@ use crate::bracketing::params;
 use ir_core::{Declaration, Func, Texts};
 use ir_grammar::{Barred, Definition, Entity, Marks, Which};
 use ir_phrases::{ReadFault, Reader};
+use std::alloc::Global;
 
 /// The most definitions of a text.
 const MOST_FUNCTIONS: usize = 4096;
@@ -28,13 +27,13 @@ fn define_word(reader: &mut Reader<'_>, so_many: usize) -> Result<(), ReadFault>
     reader.pass()
 }
 
-/// The attributes of a definition before its type, where no group counts.
-fn attributes_before(reader: &mut Reader<'_>) -> Result<Marks, ReadFault>
-    ensures { Gives result reader.new ((attribute_list barred.Values no_marks >>= λ m. ret (without_groups m)).parse reader.old) }
+/// The marks of a definition before its type, where no group counts.
+fn without_groups(alloc: Global, marks: Marks) -> Marks
+    ensures { result ≡ without_groups marks }
 {
-    let mut marks = reader.attribute_list(Barred::Values)?;
-    marks.groups = Texts::new(reader.alloc());
-    Ok(marks)
+    let mut marks = marks;
+    marks.groups = Texts::new(alloc);
+    marks
 }
 
 /// `define` { attr } type GLOBAL `(` [ param { `,` param } ] `)` { attr | note } body
@@ -45,11 +44,11 @@ pub fn definition(reader: &mut Reader<'_>, so_many: usize) -> Result<Entity, Rea
     let place = reader.place();
     define_word(reader, so_many)?;
     reader.forget_locals();
-    let before = attributes_before(reader)?;
+    let before = reader.attribute_list(Barred::Values)?;
     let result = reader.type_form()?;
     let name = reader.global()?;
     let params = params(reader)?;
-    let marks = reader.attributes_and_notes(before)?;
+    let marks = reader.attributes_and_notes(without_groups(reader.alloc(), before))?;
     let blocks = body(reader)?;
     let locals = reader.local_names()?;
     Ok(Entity::Define(Definition {

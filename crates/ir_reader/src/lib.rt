@@ -19,3 +19,4 @@ mod settling;
 
 pub use ir_grammar::Which;
 pub use ir_phrases::ReadFault;
+pub use read::read_module;

@@ -178,18 +178,27 @@ fn module_of(reader: &Reader<'_>, draft: Draft) -> Result<Module, NoMemory>
     ensures { IfOk result (λ m. m ≡ module_of draft reader.now.names) }
 {
     let alloc = reader.alloc();
-    let funcs = functions_of(alloc, draft.noinline.as_slice(), draft.definitions)?;
+    let Draft {
+        layout,
+        triple,
+        noinline,
+        types,
+        globals,
+        definitions,
+        declared,
+        declares: _,
+    } = draft;
     Ok(Module {
         symbols: reader.symbol_names()?,
         types: NamedTypes {
             names: reader.type_names()?,
-            defs: TypeDefs::of(alloc, draft.types)?,
+            defs: TypeDefs::of(alloc, types)?,
         },
-        globals: draft.globals,
-        funcs,
-        declared: draft.declared,
-        layout: draft.layout,
-        triple: draft.triple,
+        globals,
+        funcs: functions_of(alloc, noinline, definitions)?,
+        declared,
+        layout,
+        triple,
     })
 }
 

@@ -3,7 +3,7 @@ ghost use Rattle.std.specs.List.{list_any};
 ghost use Rattle.ir_grammar.specs.Sets.{among};
 ghost use Rattle.ir_grammar.specs.Entities.{function_of};
 
-use ir_core::{Func, Funcs};
+use ir_core::{Func, Funcs, Texts};
 use ir_grammar::{Definition, Definitions};
 use ir_phrases::Table;
 use oi_base::{NoMemory, Text};
@@ -56,11 +56,11 @@ fn turned(alloc: Global, funcs: Funcs) -> Result<Funcs, NoMemory>
 /// The functions of the definitions, where these groups have the word `noinline`.
 pub fn functions_of(
     alloc: Global,
-    noinline: &[Text],
+    noinline: Texts,
     definitions: Definitions,
 ) -> Result<Funcs, NoMemory>
-    ensures { IfOk result (λ fs. fs ≡ map (function_of noinline.now) definitions) }
+    ensures { IfOk result (λ fs. fs ≡ map (function_of noinline) definitions) }
 {
-    let groups = Table::of(alloc, noinline)?;
+    let groups = Table::of(alloc, noinline.as_slice())?;
     turned(alloc, settled_backwards(alloc, &groups, definitions)?)
 }
