@@ -20,14 +20,14 @@ use Rattle.ir_grammar.specs.declared.parts.Entity.{Entity}
 use Rattle.ir_grammar.specs.declared.parts.Entity.TheVariants as entities
 use Rattle.ir_grammar.specs.declared.parts.Draft.{Draft}
 use Rattle.ir_grammar.specs.Names.{type_name, define, define_next}
-use Rattle.ir_grammar.specs.Sets.{Set, has, apart}
+use Rattle.ir_grammar.specs.Sets.{Set, Any, has, apart}
 use Rattle.ir_grammar.specs.Forms.{token, Takes}
 use Rattle.ir_grammar.specs.Tokens.{Limits, is_past, sign, kind, words_of}
 use Rattle.ir_grammar.specs.Types.{type_set}
 use Rattle.ir_grammar.specs.Attributes.{no_marks, attribute_set}
 use Rattle.ir_grammar.specs.Operations.{in_brackets}
 use Rattle.ir_grammar.specs.Entities.{equals, source_word, source_filename, target_word, target, attributes_word, attributes, metadata_rest, metadata, type_def, global_words, linkage, global_end, global_var, param_name, param, define_if, define_of, define_word, without_groups, locals_so_far, forget_locals, definition, declare_word, before_name, declaration, other_entity_set, other_entity, entity_set, entity, no_entities, added, module_of, note_or_metadata, behind_declaration, next_entity, next_set, text_end, text_form}
-use Rattle.ir_grammar.proofs.FormLaws.{Shape, Law, law_token}
+use Rattle.ir_grammar.proofs.FormLaws.{Shape, Law, Fits, law_token}
 use Rattle.ir_grammar.proofs.LawsOfRounds.{law_rounds}
 use Rattle.ir_grammar.proofs.Rules.{spot, begins_with, goes_on_with, maybe, seq, or, again, done, does, placed, expects, law_one_word, shaped}
 use Rattle.ir_grammar.proofs.LawsOfTokens.{is_sign, is_word, law_text, law_number, law_skip}
@@ -111,29 +111,26 @@ law_params l h =
 abbrev pub AnyFunctions : Bool → Limits → Type 0
 AnyFunctions w l = w ≡ true → (n : ℕ) → is_past l.functions n ≡ false
 
-define_taken : (b past : Bool) (a : Unit) → define_if b past ≡ Takes a → b ≡ true
-define_taken true past a e = refl
-define_taken false past a e = absurd cc
-
 law_define : {w : Bool} (l : Limits) (count : ℕ) → AnyFunctions w l → Law w (token (define_of l count)) (begins_with define_word)
-law_define l count h = law_token (define_of l count) define_word starts (λ free. (spot (tokens.Word (codes "define")), tt, rw (h free (count + 1)) refl))
+law_define l count h = law_token (define_of l count) define_word fit (λ free. (spot (tokens.Word (codes "define")), tt, rw (h free (count + 1)) refl))
   where
-    or_first : (a b : Bool) → a ≡ true → (a || b) ≡ true
-    or_first true b e = refl
-    or_first false b e = absurd cc
+    define_fits : (n : List ℕ) (b past : Bool) → bytes_eq n (codes "define") ≡ b → Fits define_word (tokens.Word n) (define_if b past)
+    define_fits n true true e = rw e refl
+    define_fits n true false e = rw e refl
+    define_fits n false past e = tt
 
-    starts : (t : Token) (a : Unit) → define_of l count t ≡ Takes a → has define_word t ≡ true
-    starts (tokens.Int n) a e = absurd cc
-    starts (tokens.Word n) a e = or_first (bytes_eq n (codes "define")) false (define_taken (bytes_eq n (codes "define")) (is_past l.functions (count + 1)) a e)
-    starts (tokens.Label n) a e = absurd cc
-    starts (tokens.Local n) a e = absurd cc
-    starts (tokens.Global n) a e = absurd cc
-    starts (tokens.Str n) a e = absurd cc
-    starts (tokens.CStr n) a e = absurd cc
-    starts (tokens.Meta n) a e = absurd cc
-    starts (tokens.Hash n) a e = absurd cc
-    starts (tokens.Sign n) a e = absurd cc
-    starts tokens.End a e = absurd cc
+    fit : (t : Token) → Fits define_word t (define_of l count t)
+    fit (tokens.Word n) = define_fits n (bytes_eq n (codes "define")) (is_past l.functions (count + 1)) refl
+    fit (tokens.Int n) = tt
+    fit (tokens.Label n) = tt
+    fit (tokens.Local n) = tt
+    fit (tokens.Global n) = tt
+    fit (tokens.Str n) = tt
+    fit (tokens.CStr n) = tt
+    fit (tokens.Meta n) = tt
+    fit (tokens.Hash n) = tt
+    fit (tokens.Sign n) = tt
+    fit tokens.End = tt
 
 law_definition : {w : Bool} (l : Limits) (count : ℕ) → AnyParams w l → AnyFunctions w l → Law w (definition l count) (begins_with define_word)
 unfolding definition
@@ -184,7 +181,11 @@ law_next_entity : {w : Bool} (l : Limits) (d : Draft) (b : Bool) → AnyParams w
 law_next_entity l d true h k = law_behind_declaration l d h k
 law_next_entity l d false h k = shaped (seq (law_entity l (length d.definitions) h k) (λ (e : Entity). done (added d e)) refl) entity_set step_greedy refl refl
 
-law_text_end : {w : Bool} (d : Draft) → Law w (text_end d) (begins_with (kind kinds.End))
+-- behind the end of a text nothing stands
+abbrev pub any_more : Set
+any_more = Any ∷ []
+
+law_text_end : {w : Bool} (d : Draft) → Law w (text_end d) (goes_on_with (kind kinds.End) any_more)
 law_text_end d = seq (expects (kind kinds.End) tokens.End refl) (λ (e : Unit). does (λ s. (module_of d s, s))) refl
 
 apart_end : (b : Bool) → apart (next_set b) (kind kinds.End) ≡ true
@@ -195,8 +196,8 @@ apart_next : (b : Bool) → apart step_greedy (next_set b) ≡ true
 apart_next true = refl
 apart_next false = refl
 
-pub law_text_form : {w : Bool} (l : Limits) → AnyParams w l → AnyFunctions w l → Law w (text_form l) (begins_with (entity_set ++ kind kinds.End))
+pub law_text_form : {w : Bool} (l : Limits) → AnyParams w l → AnyFunctions w l → Law w (text_form l) (goes_on_with (entity_set ++ kind kinds.End) any_more)
 unfolding text_form
 law_text_form l h k =
-    law_rounds (λ (d : Draft). next_set d.declares) (λ (d : Draft). next_entity l d d.declares) (λ (d : Draft). text_end d) (λ (d : Draft). z d.declares) (λ (d : Draft). begins_with (kind kinds.End)) []
+    law_rounds (λ (d : Draft). next_set d.declares) (λ (d : Draft). next_entity l d d.declares) (λ (d : Draft). text_end d) (λ (d : Draft). z d.declares) (λ (d : Draft). goes_on_with (kind kinds.End) any_more) any_more
     (λ (d : Draft). law_next_entity l d d.declares h k) (λ (d : Draft). law_text_end d) (λ d. refl) (λ d. refl) (λ d. apart_end d.declares) (λ d d2. apart_next d2.declares) (λ d d2. refl) (λ d d2 ts e. e) no_entities

@@ -31,8 +31,8 @@ use Rattle.ir_grammar.specs.Types.{type_set}
 use Rattle.ir_grammar.specs.Values.{gep_word}
 use Rattle.ir_grammar.specs.Attributes.{no_marks, attribute_set}
 use Rattle.ir_grammar.specs.Operations.{listing, items_and_notes, align_word, align_then_notes, note_then_notes, align_or_notes, align_and_notes, bin_words, bin_flag, bin, order_words, icmp_word, icmp, select_word, select, cast_words, cast_flag, cast, alloca_word, count_and_rest, alloca, load_word, load, gep_op_rest, gep_op, pair, phi_word, phi, other_words, other_op, store_word, store, next_item, more_items, tail_word, call_words, call_head, call_end, is_lifetime, callee_if, callee_of, callee, arguments, named_call, op, Line, result_of, called, keep_types, lifetime, types_so_far, unnamed_call, other_line_set, other_line, line, line_set, instr_at, instr}
-use Rattle.ir_grammar.proofs.FormLaws.{Shape, Law, law_choose}
-use Rattle.ir_grammar.proofs.Rules.{begins_with, goes_on_with, maybe, seq, or, again, done, does, placed, expects, takes, law_one_word, shaped}
+use Rattle.ir_grammar.proofs.FormLaws.{Shape, Law, Fits, any_token, law_choose}
+use Rattle.ir_grammar.proofs.Rules.{begins_with, goes_on_with, maybe, seq, or, again, done, does, placed, expects, takes, law_one_word, shaped, with_any, begun_by_any}
 use Rattle.ir_grammar.proofs.LawsOfTokens.{is_sign, is_word, law_text, law_number, law_over, law_skip}
 use Rattle.ir_grammar.proofs.LawsOfTypes.{law_type_form, law_value_type}
 use Rattle.ir_grammar.proofs.LawsOfValues.{law_gep_flags, law_value, law_typed}
@@ -159,11 +159,11 @@ past_not_free : (w b : Bool) → (w ≡ true → b ≡ false) → b ≡ true →
 past_not_free true b h e = absurd (cc (h refl))
 past_not_free false b h e = refl
 
-law_next_item : {A : Type 0} {w : Bool} (l : Limits) {f : Form A} {z : Shape} → AnyParams w l → Law w f z → (xs : List A) → Law w (next_item l f xs) z
+law_next_item : {A : Type 0} {w : Bool} (l : Limits) {f : Form A} {z : Shape} → AnyParams w l → Law w f z → (xs : List A) → Law w (next_item l f xs) (with_any z)
 law_next_item {w = w} l {f = f} {z = z} h law xs =
-    law_choose (is_past l.params (length xs + 1)) _ f z
-    (λ e. law_over limits.Params z (past_not_free w (is_past l.params (length xs + 1)) (λ free. h free (length xs + 1)) e))
-    (λ e. law)
+    law_choose (is_past l.params (length xs + 1)) _ f (with_any z)
+    (λ e. law_over limits.Params (with_any z) (past_not_free w (is_past l.params (length xs + 1)) (λ free. h free (length xs + 1)) e) (λ t. any_token z.first t))
+    (λ e. begun_by_any law)
 
 pub law_more_items : {A : Type 0} {w : Bool} (l : Limits) {f : Form A} {z g : Set} → AnyParams w l → Law w f (goes_on_with z g) → apart g [] ≡ true → apart g (sign 44) ≡ true → apart (g ++ []) (sign 44) ≡ true → apart (g ++ []) [] ≡ true → (xs : List A) → Law w (more_items l f xs) (maybe (sign 44) ((g ++ []) ++ sign 44))
 law_more_items {A = A} l h law e1 e2 e3 e4 xs =
@@ -194,26 +194,26 @@ law_call_end : {w : Bool} → Law w call_end (maybe (sign 44 ++ attribute_set ba
 unfolding call_end
 law_call_end = shaped (seq (law_attribute_list barred.Code no_marks) (λ (m : Marks). law_notes) refl) (sign 44 ++ attribute_set barred.Code) call_greedy refl refl
 
-callee_taken : (b : Bool) (n a : List ℕ) → callee_if b n ≡ Takes a → b ≡ false
-callee_taken true n a e = absurd cc
-callee_taken false n a e = refl
-
 law_callee : {w : Bool} → Law w callee (begins_with (kind kinds.Global))
 unfolding callee
-law_callee = seq (takes callee_of (kind kinds.Global) starts (tokens.Global []) [] refl) (λ (n : List ℕ). does (symbol n)) refl
+law_callee = seq (takes callee_of (kind kinds.Global) fit (tokens.Global []) [] refl) (λ (n : List ℕ). does (symbol n)) refl
   where
-    starts : (t : Token) (a : List ℕ) → callee_of t ≡ Takes a → has (kind kinds.Global) t ≡ true
-    starts (tokens.Int n) a e = absurd cc
-    starts (tokens.Word n) a e = absurd cc
-    starts (tokens.Label n) a e = absurd cc
-    starts (tokens.Local n) a e = absurd cc
-    starts (tokens.Global n) a e = refl
-    starts (tokens.Str n) a e = absurd cc
-    starts (tokens.CStr n) a e = absurd cc
-    starts (tokens.Meta n) a e = absurd cc
-    starts (tokens.Hash n) a e = absurd cc
-    starts (tokens.Sign n) a e = absurd cc
-    starts tokens.End a e = absurd cc
+    global_fits : (n : List ℕ) (b : Bool) → Fits (kind kinds.Global) (tokens.Global n) (callee_if b n)
+    global_fits n true = tt
+    global_fits n false = refl
+
+    fit : (t : Token) → Fits (kind kinds.Global) t (callee_of t)
+    fit (tokens.Global n) = global_fits n (is_lifetime n)
+    fit (tokens.Int n) = tt
+    fit (tokens.Word n) = tt
+    fit (tokens.Label n) = tt
+    fit (tokens.Local n) = tt
+    fit (tokens.Str n) = tt
+    fit (tokens.CStr n) = tt
+    fit (tokens.Meta n) = tt
+    fit (tokens.Hash n) = tt
+    fit (tokens.Sign n) = tt
+    fit tokens.End = tt
 
 law_named_call : {w : Bool} (l : Limits) → AnyParams w l → Law w (named_call l) (goes_on_with call_words call_greedy)
 unfolding named_call
