@@ -111,10 +111,10 @@ last_fits tokens.End = tt
 law_last : {w : Bool} → Law w (token last_const_of) (begins_with last_set)
 law_last = takes last_const_of last_set last_fits (tokens.Word (codes "true")) (consts.Bool true) refl
 
-law_zero : {w : Bool} → Law w zero_init (begins_with (word (codes "zeroinitializer")))
+pub law_zero : {w : Bool} → Law w zero_init (begins_with (word (codes "zeroinitializer")))
 law_zero = seq (is_word (codes "zeroinitializer") refl) (λ (u : Unit). done consts.Zero) refl
 
-law_bytes : {w : Bool} → Law w bytes (begins_with (kind kinds.CStr))
+pub law_bytes : {w : Bool} → Law w bytes (begins_with (kind kinds.CStr))
 law_bytes = seq (law_text kinds.CStr (tokens.CStr []) refl) (λ (b : List ℕ). done (consts.Bytes b)) refl
 
 abbrev pub init_set : Set
@@ -123,10 +123,10 @@ init_set = kind kinds.Global ++ gep_word ++ kind kinds.Int ++ word (codes "zeroi
 pub law_typed_init : {w : Bool} (f : Form Const) (most : Option ℕ) (n : ℕ) → Law w f (begins_with init_set) → Law w (typed_init f most n) (begins_with (type_set true))
 law_typed_init f most n h = seq (law_type true most n) (λ (t : IrType). seq h (λ (c : Const). done (record { ty = t; value = c })) refl) refl
 
-law_array_init : {w : Bool} (f : Form TypedConst) → Law w f (begins_with (type_set true)) → Law w (array_init f) (begins_with (sign 91))
+pub law_array_init : {w : Bool} (f : Form TypedConst) → Law w f (begins_with (type_set true)) → Law w (array_init f) (begins_with (sign 91))
 law_array_init f h = seq (is_sign 91 refl) (λ (o : Unit). seq (law_listed h refl) (λ (cs : List TypedConst). seq (is_sign 93 refl) (λ (c : Unit). done (consts.Array cs)) refl) refl) refl
 
-law_struct_init : {w : Bool} (f : Form TypedConst) → Law w f (begins_with (type_set true)) → Law w (struct_init f) (begins_with (sign 123))
+pub law_struct_init : {w : Bool} (f : Form TypedConst) → Law w f (begins_with (type_set true)) → Law w (struct_init f) (begins_with (sign 123))
 law_struct_init f h = seq (is_sign 123 refl) (λ (o : Unit). seq (law_listed h refl) (λ (cs : List TypedConst). seq (is_sign 125 refl) (λ (c : Unit). done (consts.Struct cs)) refl) refl) refl
 
 pub law_init_at : {w : Bool} (most : Option ℕ) (n : ℕ) → Law w (init_at most n) (begins_with init_set)

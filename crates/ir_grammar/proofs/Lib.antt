@@ -14,3 +14,6 @@ pub mod LawsOfEntities
 pub mod Exact
 pub mod OneModule
 pub mod Rounds
+pub mod Agreement
+pub mod AgreementOfValues
+pub mod AgreementOfOperations
