@@ -41,17 +41,17 @@ use Rattle.ir_grammar.proofs.LawsOfBodies.{law_body}
 law_equals : {w : Bool} → Law w equals (begins_with (sign 61))
 law_equals = is_sign 61 refl
 
-law_source : {w : Bool} → Law w source_filename (begins_with source_word)
+pub law_source : {w : Bool} → Law w source_filename (begins_with source_word)
 unfolding source_filename
 law_source = seq (is_word (codes "source_filename") refl) (λ (u : Unit). seq law_equals (λ (e : Unit). seq law_string (λ (s : List ℕ). done entities.Nothing) refl) refl) refl
 
-law_target : {w : Bool} → Law w target (begins_with target_word)
+pub law_target : {w : Bool} → Law w target (begins_with target_word)
 unfolding target
 law_target =
     seq (is_word (codes "target") refl) (λ (u : Unit). seq (law_one_word ((codes "datalayout", true) ∷ (codes "triple", false) ∷ []) (codes "triple") false refl) (λ (is_layout : Bool).
     seq law_equals (λ (e : Unit). seq law_string (λ (s : List ℕ). done (if is_layout then entities.Layout s else entities.Triple s)) refl) refl) refl) refl
 
-law_attributes : {w : Bool} → Law w attributes (begins_with attributes_word)
+pub law_attributes : {w : Bool} → Law w attributes (begins_with attributes_word)
 unfolding attributes
 law_attributes =
     seq (is_word (codes "attributes") refl) (λ (u : Unit). seq law_hash (λ (n : List ℕ). seq law_equals (λ (e : Unit).
@@ -61,7 +61,7 @@ law_metadata_rest : {w : Bool} → Law w metadata_rest (begins_with (sign 61))
 unfolding metadata_rest
 law_metadata_rest = seq law_equals (λ (e : Unit). seq (or (is_word (codes "distinct") refl) (done tt) refl refl) (λ (d : Unit). law_node) refl) refl
 
-law_metadata : {w : Bool} → Law w metadata (begins_with (kind kinds.Meta))
+pub law_metadata : {w : Bool} → Law w metadata (begins_with (kind kinds.Meta))
 unfolding metadata
 law_metadata = seq law_meta (λ (m : Unit). seq law_metadata_rest (λ (r : Unit). done entities.Nothing) refl) refl
 
@@ -71,7 +71,7 @@ law_type_def l =
     seq (placed (law_text kinds.Local (tokens.Local []) refl) refl) (λ (n : Place × List ℕ). seq (does (type_name n.1)) (λ (x : TypeName). seq law_equals (λ (e : Unit). seq (is_word (codes "type") refl) (λ (u : Unit).
     seq (law_type_form l) (λ (t : IrType). done (entities.Type (record { place = n.0; name = x; ty = t }))) refl) refl) refl) refl) refl
 
-law_linkage : {w : Bool} (b : Bool) → Law w (linkage b) (maybe (words_of global_words) (words_of global_words))
+pub law_linkage : {w : Bool} (b : Bool) → Law w (linkage b) (maybe (words_of global_words) (words_of global_words))
 unfolding linkage
 law_linkage b = again (λ (b : Bool). seq (law_one_word global_words (codes "internal") true refl) (λ (i : Bool). done (b || i)) refl) (λ (b : Bool). done b) refl refl refl refl b
 
@@ -89,14 +89,14 @@ law_global_var l =
 
 -- ---- functions
 
-law_param_name : {w : Bool} → Law w param_name (maybe (kind kinds.Local) (kind kinds.Local))
+pub law_param_name : {w : Bool} → Law w param_name (maybe (kind kinds.Local) (kind kinds.Local))
 unfolding param_name
 law_param_name = shaped (or (seq (law_text kinds.Local (tokens.Local []) refl) (λ (n : List ℕ). does (define n)) refl) (does define_next) refl refl) (kind kinds.Local) (kind kinds.Local) refl refl
 
 abbrev param_ends : Set
 param_ends = kind kinds.Local ++ attribute_greedy ++ attribute_set barred.Values
 
-law_param : {w : Bool} (l : Limits) → Law w (param l) (goes_on_with (type_set true) param_ends)
+pub law_param : {w : Bool} (l : Limits) → Law w (param l) (goes_on_with (type_set true) param_ends)
 unfolding param
 law_param l =
     shaped (seq (law_type_form l) (λ (t : IrType). seq (law_attribute_list barred.Values no_marks) (λ (m : Marks). seq law_param_name (λ (n : LocalId). done (record { ty = t; name = n })) refl) refl) refl) (type_set true) param_ends refl refl
@@ -142,7 +142,7 @@ law_definition l count h k =
       groups = m.groups;
     }))) refl) refl) refl) refl) refl) refl) refl) refl) refl
 
-law_declaration : {w : Bool} → Law w declaration (begins_with declare_word)
+pub law_declaration : {w : Bool} → Law w declaration (begins_with declare_word)
 unfolding declaration
 law_declaration =
     seq (placed (is_word (codes "declare") refl) refl) (λ (d : Place × Unit). seq (law_skip (expects before_name (tokens.Word []) refl) refl refl refl) (λ (s : Unit). seq law_global (λ (f : SymId).
@@ -162,7 +162,7 @@ law_entity : {w : Bool} (l : Limits) (count : ℕ) → AnyParams w l → AnyFunc
 unfolding entity
 law_entity l count h k = or law_metadata (law_other_entity l count h k) refl refl
 
-law_note_or_metadata : {w : Bool} (d : Draft) → Law w (note_or_metadata d) (begins_with (kind kinds.Meta))
+pub law_note_or_metadata : {w : Bool} (d : Draft) → Law w (note_or_metadata d) (begins_with (kind kinds.Meta))
 unfolding note_or_metadata
 law_note_or_metadata d = seq law_meta (λ (m : Unit). or (seq law_note_rest (λ (n : Unit). done d) refl) (seq law_metadata_rest (λ (r : Unit). done (added d entities.Nothing)) refl) refl refl) refl
 
@@ -185,7 +185,7 @@ law_next_entity l d false h k = shaped (seq (law_entity l (length d.definitions)
 abbrev pub any_more : Set
 any_more = Any ∷ []
 
-law_text_end : {w : Bool} (d : Draft) → Law w (text_end d) (goes_on_with (kind kinds.End) any_more)
+pub law_text_end : {w : Bool} (d : Draft) → Law w (text_end d) (goes_on_with (kind kinds.End) any_more)
 law_text_end d = seq (expects (kind kinds.End) tokens.End refl) (λ (e : Unit). does (λ s. (module_of d s, s))) refl
 
 apart_end : (b : Bool) → apart (next_set b) (kind kinds.End) ≡ true

@@ -17,3 +17,5 @@ pub mod Rounds
 pub mod Agreement
 pub mod AgreementOfValues
 pub mod AgreementOfOperations
+pub mod AgreementOfBodies
+pub mod AgreementOfEntities
