@@ -196,7 +196,10 @@ apart_next : (b : Bool) → apart step_greedy (next_set b) ≡ true
 apart_next true = refl
 apart_next false = refl
 
-pub law_text_form : {w : Bool} (l : Limits) → AnyParams w l → AnyFunctions w l → Law w (text_form l) (goes_on_with (entity_set ++ kind kinds.End) any_more)
+abbrev pub text_shape : Shape
+text_shape = goes_on_with (entity_set ++ kind kinds.End) any_more
+
+pub law_text_form : {w : Bool} (l : Limits) → AnyParams w l → AnyFunctions w l → Law w (text_form l) text_shape
 unfolding text_form
 law_text_form l h k =
     law_rounds (λ (d : Draft). next_set d.declares) (λ (d : Draft). next_entity l d d.declares) (λ (d : Draft). text_end d) (λ (d : Draft). z d.declares) (λ (d : Draft). goes_on_with (kind kinds.End) any_more) any_more

@@ -19,3 +19,5 @@ pub mod AgreementOfValues
 pub mod AgreementOfOperations
 pub mod AgreementOfBodies
 pub mod AgreementOfEntities
+pub mod Ends
+pub mod Faults
