@@ -1,5 +1,5 @@
 -- Blocks and bodies with wider limits.
-use Rattle.std.proofs.Common.{ℕ, Bool, true, false, List, [], ◌∷◌, ◌++◌}
+use Rattle.std.proofs.Common.{ℕ, true, false, List, [], ◌∷◌, ◌++◌}
 use Rattle.std.specs.Prelude.{Option, Some, None, codes}
 use Rattle.oi_base.specs.declared.ids.Place.{Place}
 use Rattle.ir_core.specs.declared.ty.IrType.{IrType}
@@ -22,7 +22,7 @@ use Rattle.ir_grammar.specs.Tokens.{Limits, sign, word, kind}
 use Rattle.ir_grammar.specs.Types.{type_set}
 use Rattle.ir_grammar.specs.Values.{gep_word}
 use Rattle.ir_grammar.specs.Operations.{line_set, other_line_set, Line, instr_at}
-use Rattle.ir_grammar.specs.Bodies.{void_word, Ended, ret_end, br_end, switch_case, switch_end, end_form, with_instr, code, finish, lines, labelled, unlabelled, block_of, grown, block, settled, begun, local_behind, gep_behind, plain_value_set, other_lines, other_unlabelled, other_block, behind_void, next_block, next_set, all_blocks, last_blocks, more_blocks, body}
+use Rattle.ir_grammar.specs.Bodies.{void_word, Ended, ret_end, br_end, switch_case, switch_end, end_form, with_instr, code, finish, lines, labelled, unlabelled, block_of, grown, block, settled, begun, local_behind, gep_behind, plain_value_set, other_lines, other_unlabelled, other_block, behind_void, next_block, next_set, more_blocks, body}
 use Rattle.ir_grammar.proofs.LawsOfValues.{law_gep_flags}
 use Rattle.ir_grammar.proofs.LawsOfAttributes.{law_notes}
 use Rattle.ir_grammar.proofs.LawsOfOperations.{law_local_name}

@@ -1,5 +1,5 @@
 -- Entities and texts with wider limits.
-use Rattle.std.proofs.Common.{◌≡◌, ℕ, ◌≤◌, ◌+◌, Bool, true, false, nat_lt, List, [], ◌∷◌, ◌++◌, length, refl, arith}
+use Rattle.std.proofs.Common.{◌≡◌, ℕ, ◌+◌, Bool, true, false, nat_lt, List, length, refl, arith}
 use Rattle.std.proofs.lemmas.Bool.Decides.{nat_tests}
 use Rattle.std.specs.Prelude.{Option, Some, None, codes}
 use Rattle.std.specs.Str.{bytes_eq}
@@ -15,14 +15,13 @@ use Rattle.ir_core.specs.declared.func.Param.{Param}
 use Rattle.ir_core.specs.declared.module.SymId.{SymId}
 use Rattle.ir_grammar.specs.declared.kinds.Kind.TheVariants as kinds
 use Rattle.ir_grammar.specs.declared.kinds.Barred.TheVariants as barred
-use Rattle.ir_grammar.specs.declared.which.Which.TheVariants as limits
 use Rattle.ir_grammar.specs.declared.parts.Attribute.{Attribute}
 use Rattle.ir_grammar.specs.declared.parts.Marks.{Marks}
 use Rattle.ir_grammar.specs.declared.parts.Entity.{Entity}
 use Rattle.ir_grammar.specs.declared.parts.Entity.TheVariants as entities
 use Rattle.ir_grammar.specs.declared.parts.Draft.{Draft}
 use Rattle.ir_grammar.specs.Names.{type_name}
-use Rattle.ir_grammar.specs.Forms.{token, Verdict, Takes, Over}
+use Rattle.ir_grammar.specs.Forms.{token}
 use Rattle.ir_grammar.specs.Tokens.{Limits, is_past, sign, word, kind}
 use Rattle.ir_grammar.specs.Attributes.{no_marks, attribute_set}
 use Rattle.ir_grammar.specs.Operations.{align_word}

@@ -1,9 +1,8 @@
 -- Arguments, operations and instructions with wider limits.
-use Rattle.std.proofs.Common.{◌≡◌, ◌⊎◌, inl, inr, ℕ, ◌≤◌, ◌+◌, suc, pos, Bool, true, false, nat_lt, List, [], ◌∷◌, ◌++◌, length, Ok, Err, refl, sym, ap, ◌∙◌, subst, arith}
+use Rattle.std.proofs.Common.{◌≡◌, inl, inr, ℕ, ◌≤◌, ◌+◌, pos, Bool, true, false, nat_lt, List, [], ◌∷◌, ◌++◌, length, Ok, Err, refl, sym, arith}
 use Rattle.std.proofs.lemmas.Bool.Decides.{nat_tests}
 use Rattle.std.specs.Prelude.{Option, Some, None, codes}
 use Rattle.oi_base.specs.declared.ids.Place.{Place}
-use Rattle.ir_lexer.specs.declared.table.Token.TheVariants as tokens
 use Rattle.ir_lexer.specs.declared.fault.LexFault.{LexFault}
 use Rattle.ir_core.specs.declared.flat.BinOp.{BinOp}
 use Rattle.ir_core.specs.declared.flat.Cmp.{Cmp}
@@ -27,19 +26,17 @@ use Rattle.ir_grammar.specs.declared.which.Which.{Which}
 use Rattle.ir_grammar.specs.declared.which.Which.TheVariants as limits
 use Rattle.ir_grammar.specs.Pieces.{Piece, Is, Bad}
 use Rattle.ir_grammar.specs.Names.{Names, local, symbol, define, define_next}
-use Rattle.ir_grammar.specs.Forms.{Left, Why, Refused, Exceeds, Outcome, Form, choose, token, Takes, Over}
-use Rattle.ir_grammar.specs.Tokens.{Limits, is_past, sign, word, kind, words_of, one_word, text, over}
+use Rattle.ir_grammar.specs.Forms.{Why, Refused, Exceeds, Outcome, Form, choose}
+use Rattle.ir_grammar.specs.Tokens.{Limits, is_past, sign, word, kind, words_of, over}
 use Rattle.ir_grammar.specs.Types.{type_set}
-use Rattle.ir_grammar.specs.Values.{const_words, gep_word, value_set}
+use Rattle.ir_grammar.specs.Values.{gep_word, value_set}
 use Rattle.ir_grammar.specs.Attributes.{more_set, no_integer, last, argument_value, argument}
-use Rattle.ir_grammar.specs.Operations.{listing, items_and_notes, align_word, align_then_notes, align_or_notes, align_and_notes, bin_words, bin, order_words, icmp_word, icmp, select_word, select, cast_words, cast, alloca_word, count_and_rest, alloca, load_word, load, gep_op_rest, gep_op, pair, phi_word, phi, other_op, store_word, store, next_item, more_items, in_brackets, call_words, is_lifetime, arguments, named_call, op, Line, result_of, called, lifetime, types_so_far, unnamed_call, other_line, line, instr_at, instr}
-use Rattle.ir_grammar.proofs.FormLaws.{Shape, Heads, Traced, Faulted, Exceeded, Law, after, left, shrinks}
-use Rattle.ir_grammar.proofs.Rules.{begins_with}
-use Rattle.ir_grammar.proofs.LawsOfTokens.{law_int}
+use Rattle.ir_grammar.specs.Operations.{listing, items_and_notes, align_word, align_then_notes, align_or_notes, align_and_notes, bin_words, bin, icmp_word, icmp, select_word, select, cast_words, cast, alloca_word, count_and_rest, alloca, load_word, load, gep_op_rest, gep_op, pair, phi_word, phi, other_op, store_word, store, next_item, in_brackets, call_words, is_lifetime, arguments, named_call, op, Line, result_of, called, lifetime, types_so_far, unnamed_call, other_line, line, instr_at, instr}
+use Rattle.ir_grammar.proofs.FormLaws.{Shape, Heads, Traced, Faulted, Exceeded, Law, left, shrinks}
 use Rattle.ir_grammar.proofs.LawsOfValues.{law_gep_flags, law_address, law_local_value}
 use Rattle.ir_grammar.proofs.LawsOfAttributes.{law_note, law_notes, law_more, law_argument}
 use Rattle.ir_grammar.proofs.LawsOfOperations.{law_note_then_notes, law_bin_flags, law_cast_flags, law_may_samesign, law_local_name, law_call_head, law_call_end, law_callee, law_lifetime, law_global_name}
-use Rattle.ir_grammar.proofs.Agreement.{Agrees, Agree, agree_same, agree_act, agree_ret, agree_less, agree_one, agree_expect, agree_then, agree_either, agree_rounds, agree_located}
+use Rattle.ir_grammar.proofs.Agreement.{Agrees, Agree, agree_same, agree_act, agree_ret, agree_one, agree_expect, agree_then, agree_either, agree_rounds, agree_located}
 use Rattle.ir_grammar.proofs.AgreementOfValues.{AtMost, Wider, agree_number, agree_type_form, agree_value_type, agree_gep, agree_value, agree_typed}
 
 -- ---- arguments

@@ -1,13 +1,11 @@
 -- Types, values and initialisers with wider limits.
-use Rattle.std.proofs.Common.{◌≡◌, ◌⊎◌, inl, inr, ℕ, ℤ, ◌≤◌, ◌-◌, zero, suc, pos, negsuc, Bool, true, false, nat_eq, nat_lt, ◌||◌, List, [], ◌∷◌, ◌++◌, length, Err, refl, sym, ap, ◌∙◌, arith}
+use Rattle.std.proofs.Common.{◌≡◌, inl, inr, ℕ, ℤ, ◌≤◌, ◌-◌, zero, suc, pos, negsuc, Bool, true, false, nat_eq, nat_lt, List, [], ◌∷◌, length, Err, refl, arith}
 use Rattle.std.proofs.lemmas.Bool.Decides.{nat_tests}
 use Rattle.std.specs.Prelude.{if◌then◌else◌, not, Option, Some, None, codes}
 use Rattle.std.specs.Str.{bytes_eq}
 use Rattle.oi_base.specs.declared.ids.Place.{Place}
-use Rattle.oi_base.specs.declared.words.Width.TheVariants.{W32}
 use Rattle.ir_lexer.specs.declared.table.Token.{Token}
 use Rattle.ir_lexer.specs.declared.table.Token.TheVariants as tokens
-use Rattle.ir_lexer.specs.declared.table.Spot.{Spot}
 use Rattle.ir_core.specs.declared.ty.IrType.{IrType}
 use Rattle.ir_core.specs.declared.ty.IrType as types
 use Rattle.ir_core.specs.declared.module.SymId.{SymId}
@@ -21,14 +19,14 @@ use Rattle.ir_grammar.specs.declared.kinds.Kind.TheVariants as kinds
 use Rattle.ir_grammar.specs.declared.which.Which.TheVariants as limits
 use Rattle.ir_grammar.specs.Pieces.{Piece, Is, Bad}
 use Rattle.ir_grammar.specs.Names.{Names}
-use Rattle.ir_grammar.specs.Sets.{Set, are_digits, is_debug, has}
-use Rattle.ir_grammar.specs.Forms.{Left, Outcome, Form, Refused, Exceeds, judged, token, Verdict, Takes, Refuses, Over, either}
-use Rattle.ir_grammar.specs.Tokens.{Limits, is_past, expect, sign, word, kind, look, words_of, one_word, int, below_zero, in_range, number_of, number, behind_comma}
+use Rattle.ir_grammar.specs.Sets.{are_digits, is_debug, has}
+use Rattle.ir_grammar.specs.Forms.{Left, Outcome, Form, Refused, Exceeds, judged, token, Takes, Refuses, Over, either}
+use Rattle.ir_grammar.specs.Tokens.{Limits, sign, word, kind, look, words_of, one_word, in_range, number_of, number}
 use Rattle.ir_grammar.specs.Types.{scalars, named, last_of, type_set, array, struct, type_in, type_form, value_type}
 use Rattle.ir_grammar.specs.Values.{const_words, gep_word, index, gep_rest, gep, const_at, constant, value, typed, last_const_of, typed_init, array_init, struct_init, init_at, init}
 use Rattle.ir_grammar.proofs.Apart.{or_false}
-use Rattle.ir_grammar.proofs.FormLaws.{Law, after, left, shrinks}
-use Rattle.ir_grammar.proofs.Rules.{or, law_one_word}
+use Rattle.ir_grammar.proofs.FormLaws.{after, left, shrinks}
+use Rattle.ir_grammar.proofs.Rules.{or}
 use Rattle.ir_grammar.proofs.LawsOfTokens.{is_sign, law_int}
 use Rattle.ir_grammar.proofs.LawsOfTypes.{law_named, law_type}
 use Rattle.ir_grammar.proofs.LawsOfValues.{law_gep_flags, law_global, law_address, law_integer, law_const_word, law_local_value, law_zero, law_bytes, law_typed_init, law_array_init, law_struct_init, law_init_at}

@@ -1,6 +1,6 @@
 -- The last piece of a text is its end or its first lexical fault, and no other piece is one of these. What a text form
 -- has ends in the end.
-use Rattle.std.proofs.Common.{◌≡◌, ◌⊎◌, inl, inr, ℕ, ◌≤◌, ◌<◌, ◌+◌, zero, suc, Bool, true, false, List, [], ◌∷◌, ◌++◌, length, Result, Ok, Err, refl, sym, ap, ◌∙◌, append_assoc, arith}
+use Rattle.std.proofs.Common.{◌≡◌, ◌⊎◌, inl, inr, ℕ, ◌<◌, ◌+◌, zero, suc, Bool, true, false, List, [], ◌∷◌, ◌++◌, length, Result, Ok, Err, refl, sym, ap, ◌∙◌, append_assoc, arith}
 use Rattle.std.specs.Prelude.{if◌then◌else◌, not}
 use Rattle.std.proofs.lemmas.List.{length-append}
 use Rattle.oi_base.specs.declared.ids.Place.{Place}
@@ -14,10 +14,10 @@ use Rattle.ir_lexer.proofs.Behind.{in_parts}
 use Rattle.ir_core.specs.declared.module.Module as modules
 use Rattle.ir_grammar.specs.declared.kinds.Kind.TheVariants as kinds
 use Rattle.ir_grammar.specs.declared.parts.Draft.{Draft}
-use Rattle.ir_grammar.specs.Pieces.{Piece, Is, Bad, is_last, then_more, pieces_at, pieces_of, pieces}
+use Rattle.ir_grammar.specs.Pieces.{Piece, Is, is_last, then_more, pieces_at, pieces_of, pieces}
 use Rattle.ir_grammar.specs.Names.{Names}
 use Rattle.ir_grammar.specs.Sets.{is_debug, are_digits, has}
-use Rattle.ir_grammar.specs.Forms.{Form, Verdict, Takes, Rounds, rounds}
+use Rattle.ir_grammar.specs.Forms.{Form, Takes, Rounds}
 use Rattle.ir_grammar.specs.Tokens.{Limits, allows, kind}
 use Rattle.ir_grammar.specs.Entities.{no_entities, next_entity, text_end, text_form}
 
@@ -57,7 +57,7 @@ spelled (tokens.Hash n) bs h e = not_empty bs 35 n h.0
 spelled (tokens.Sign n) bs h e = not_empty bs n [] h.0
 spelled tokens.End bs h e = absurd cc
 
-fewer : (u v : Unread) (t : Token) (p : Place) → next_token u ≡ Ok ((t, p), v) → is_end t ≡ false → length v.bytes < length u.bytes
+pub fewer : (u v : Unread) (t : Token) (p : Place) → next_token u ≡ Ok ((t, p), v) → is_end t ≡ false → length v.bytes < length u.bytes
 fewer u v t p e more =
     let h = in_parts u v t p e in
     let some = spelled t h.1 h.3 more in

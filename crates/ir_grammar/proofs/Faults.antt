@@ -1,21 +1,19 @@
 -- What a fault says of a text, and what is read.
-use Rattle.std.proofs.Common.{◌≡◌, ◌⊎◌, inl, inr, ℕ, ◌≤◌, ◌<◌, ◌+◌, zero, suc, Bool, true, false, List, [], ◌∷◌, ◌++◌, length, Ok, Err, refl, sym, ap, ◌∙◌, subst, append_assoc, arith}
-use Rattle.std.specs.Prelude.{Option, Some, None}
+use Rattle.std.proofs.Common.{◌≡◌, ◌⊎◌, inl, inr, ℕ, ◌≤◌, ◌<◌, ◌+◌, suc, Bool, true, false, List, [], ◌∷◌, ◌++◌, length, Ok, Err, refl, sym, ap, ◌∙◌, subst, append_assoc, arith}
 use Rattle.std.proofs.lemmas.List.{length-append, append-nil, append_cancel_right, append_cancel_left}
 use Rattle.ir_lexer.specs.declared.table.Spot.{Spot}
 use Rattle.ir_core.specs.declared.module.Module as modules
 use Rattle.ir_grammar.specs.declared.which.Which.{Which}
-use Rattle.ir_grammar.specs.Pieces.{Piece, Is, is_last, pieces}
+use Rattle.ir_grammar.specs.Pieces.{Piece, Is, pieces}
 use Rattle.ir_grammar.specs.Names.{Names, no_names}
 use Rattle.ir_grammar.specs.Forms.{Left, Why, Refused, Exceeds, Fault, Outcome, Form}
 use Rattle.ir_grammar.specs.Tokens.{Limits, stated, unlimited}
 use Rattle.ir_grammar.specs.Entities.{text_form}
-use Rattle.ir_grammar.specs.Reading.{ReadsPieces, Reads, ReadsWithinLimits, IsFront, FirstRefused, ExceedsAt, read}
-use Rattle.ir_grammar.proofs.FormLaws.{Shape, Law, Begins, Traced, Faulted, Exceeded, after, left, split}
+use Rattle.ir_grammar.specs.Reading.{ReadsPieces, ReadsWithinLimits, IsFront, FirstRefused, ExceedsAt, read}
+use Rattle.ir_grammar.proofs.FormLaws.{Shape, Law, Begins, Traced, Faulted, after, left, split}
 use Rattle.ir_grammar.proofs.LawsOfEntities.{text_shape, law_text_form}
 use Rattle.ir_grammar.proofs.Exact.{read_whole, first_fault}
-use Rattle.ir_grammar.proofs.Agreement.{IsExceeded, Passed, Agrees, Agree}
-use Rattle.ir_grammar.proofs.AgreementOfValues.{Wider}
+use Rattle.ir_grammar.proofs.Agreement.{IsExceeded, Agrees, Agree}
 use Rattle.ir_grammar.proofs.AgreementOfEntities.{agree_text}
 use Rattle.ir_grammar.proofs.Ends.{OneLast, nothing_behind_last, has_last, last_of_pieces, text_ends}
 

@@ -1,6 +1,6 @@
 -- The laws of notes and attributes.
 use Rattle.std.proofs.Common.{◌≡◌, ℕ, ℤ, Bool, true, false, ◌||◌, List, [], ◌∷◌, ◌++◌, refl}
-use Rattle.std.specs.Prelude.{not, codes}
+use Rattle.std.specs.Prelude.{codes}
 use Rattle.ir_lexer.specs.declared.table.Token.{Token}
 use Rattle.ir_lexer.specs.declared.table.Token.TheVariants as tokens
 use Rattle.ir_core.specs.declared.ty.IrType.{IrType}
@@ -17,9 +17,8 @@ use Rattle.ir_grammar.specs.declared.parts.Marks.{Marks}
 use Rattle.ir_grammar.specs.declared.parts.Stand.{Stand}
 use Rattle.ir_grammar.specs.declared.parts.Stand.TheVariants.{Free, AfterWord, AfterInt}
 use Rattle.ir_grammar.specs.Pieces.{Piece, Is, Bad}
-use Rattle.ir_grammar.specs.Sets.{Set, is_integer_type, among, has, head_in, apart}
+use Rattle.ir_grammar.specs.Sets.{Set, is_integer_type, among, head_in, apart}
 use Rattle.ir_grammar.specs.Words.{no_attributes}
-use Rattle.ir_grammar.specs.Forms.{Takes}
 use Rattle.ir_grammar.specs.Tokens.{Limits, sign, kind, words_of, text}
 use Rattle.ir_grammar.specs.Types.{type_set}
 use Rattle.ir_grammar.specs.Values.{gep_word, const_words, value_set}

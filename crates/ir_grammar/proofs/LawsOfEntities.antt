@@ -20,8 +20,8 @@ use Rattle.ir_grammar.specs.declared.parts.Entity.{Entity}
 use Rattle.ir_grammar.specs.declared.parts.Entity.TheVariants as entities
 use Rattle.ir_grammar.specs.declared.parts.Draft.{Draft}
 use Rattle.ir_grammar.specs.Names.{type_name, define, define_next}
-use Rattle.ir_grammar.specs.Sets.{Set, Any, has, apart}
-use Rattle.ir_grammar.specs.Forms.{token, Takes}
+use Rattle.ir_grammar.specs.Sets.{Set, Any, apart}
+use Rattle.ir_grammar.specs.Forms.{token}
 use Rattle.ir_grammar.specs.Tokens.{Limits, is_past, sign, kind, words_of}
 use Rattle.ir_grammar.specs.Types.{type_set}
 use Rattle.ir_grammar.specs.Attributes.{no_marks, attribute_set}

@@ -24,8 +24,8 @@ use Rattle.ir_grammar.specs.declared.kinds.Barred.TheVariants as barred
 use Rattle.ir_grammar.specs.declared.parts.Marks.{Marks}
 use Rattle.ir_grammar.specs.declared.which.Which.TheVariants as limits
 use Rattle.ir_grammar.specs.Names.{local, symbol, define, define_next}
-use Rattle.ir_grammar.specs.Sets.{Set, has, apart}
-use Rattle.ir_grammar.specs.Forms.{Form, Takes, ◌>>=◌}
+use Rattle.ir_grammar.specs.Sets.{Set, apart}
+use Rattle.ir_grammar.specs.Forms.{Form, ◌>>=◌}
 use Rattle.ir_grammar.specs.Tokens.{Limits, is_past, sign, kind, words_of, text, expect, skip}
 use Rattle.ir_grammar.specs.Types.{type_set}
 use Rattle.ir_grammar.specs.Values.{gep_word}

@@ -11,7 +11,7 @@ use Rattle.ir_grammar.specs.Sets.{Set, Any, has, apart}
 use Rattle.ir_grammar.specs.Names.{Names}
 use Rattle.ir_grammar.specs.Forms.{Form, act, ret, token, Verdict, Takes, Refuses, Over, ◌>>=◌, either, rounds, located}
 use Rattle.ir_grammar.specs.Tokens.{allows, expect, look, words_of, word_of, one_word, many}
-use Rattle.ir_grammar.proofs.FormLaws.{Shape, Heads, Starts, Closes, Law, Fits, token_shape, start_right, law_act, law_token, law_then, law_either, law_located, after_shape, or_shape}
+use Rattle.ir_grammar.proofs.FormLaws.{Shape, Heads, Starts, Law, Fits, token_shape, start_right, law_act, law_token, law_then, law_either, law_located, after_shape, or_shape}
 use Rattle.ir_grammar.proofs.Apart.{in_right}
 use Rattle.ir_grammar.proofs.LawsOfRounds.{law_rounds, rounds_shape, rounds_greedy}
 use Rattle.ir_grammar.proofs.Within.{within, within_in, within_head}
