@@ -59,7 +59,10 @@ Faulted f l (Err d) = Exceeded f l d.at d.why
 abbrev pub Closes : Set → Type 0
 Closes greedy = (t : Spot) → in_set greedy (Is t) ≡ true
 
--- w: the form has no limits
+-- Of a form and its shape, where w says that it has no limits: what was read is in the form, and at a fault begins a
+-- text of it; how its texts begin; that each is read whole, where what follows doesn't go on; that the reading gets past
+-- the last token of what begins a text; a text; that a limit is told only where it is exceeded; how that begins; that it
+-- is told there; and that the end is taken only at the end.
 pub record Law {A : Type 0} (w : Bool) (f : Form A) (z : Shape) : Type 0 where
   pub traced : (l : Left) → Traced w f l (f.parse l)
   pub heads : (s : Names) (u : List Piece) (a : A) (s' : Names) → f.reads s u a s' → Heads z u

@@ -1,6 +1,6 @@
 -- The laws of entities and of whole texts.
 use Rattle.std.proofs.Common.{◌≡◌, ℕ, ◌+◌, Bool, true, false, ◌||◌, List, [], ◌∷◌, ◌++◌, length, refl}
-use Rattle.std.specs.Prelude.{if◌then◌else◌, Option, Some, None, codes}
+use Rattle.std.specs.Prelude.{Option, Some, None, codes}
 use Rattle.std.specs.Str.{bytes_eq}
 use Rattle.oi_base.specs.declared.ids.Place.{Place}
 use Rattle.ir_lexer.specs.declared.table.Token.{Token}
@@ -26,7 +26,7 @@ use Rattle.ir_grammar.specs.Tokens.{Limits, is_past, sign, kind, words_of}
 use Rattle.ir_grammar.specs.Types.{type_set}
 use Rattle.ir_grammar.specs.Attributes.{no_marks, attribute_set}
 use Rattle.ir_grammar.specs.Operations.{in_brackets}
-use Rattle.ir_grammar.specs.Entities.{equals, source_word, source_filename, target_word, target, attributes_word, attributes, metadata_rest, metadata, type_def, global_words, linkage, global_end, global_var, param_name, param, define_if, define_of, define_word, without_groups, locals_so_far, forget_locals, definition, declare_word, before_name, declaration, other_entity_set, other_entity, entity_set, entity, no_entities, added, module_of, note_or_metadata, behind_declaration, next_entity, next_set, text_end, text_form}
+use Rattle.ir_grammar.specs.Entities.{equals, source_word, source_filename, target_word, target_words, target_of, target, attributes_word, group_of, attributes, metadata_rest, metadata, type_def, global_words, linkage, storage_words, global_end, global_var, param_name, param, define_if, define_of, define_word, without_groups, locals_so_far, forget_locals, definition, declare_word, before_name, declaration, other_entity_set, other_entity, entity_set, entity, no_entities, added, module_of, note_or_metadata, behind_declaration, next_entity, next_set, text_end, text_form}
 use Rattle.ir_grammar.proofs.FormLaws.{Shape, Law, Fits, law_token}
 use Rattle.ir_grammar.proofs.LawsOfRounds.{law_rounds}
 use Rattle.ir_grammar.proofs.Rules.{spot, begins_with, goes_on_with, maybe, seq, or, again, done, does, placed, expects, law_one_word, shaped}
@@ -48,14 +48,14 @@ law_source = seq (is_word (codes "source_filename") refl) (λ (u : Unit). seq la
 pub law_target : {w : Bool} → Law w target (begins_with target_word)
 unfolding target
 law_target =
-    seq (is_word (codes "target") refl) (λ (u : Unit). seq (law_one_word ((codes "datalayout", true) ∷ (codes "triple", false) ∷ []) (codes "triple") false refl) (λ (is_layout : Bool).
-    seq law_equals (λ (e : Unit). seq law_string (λ (s : List ℕ). done (if is_layout then entities.Layout s else entities.Triple s)) refl) refl) refl) refl
+    seq (is_word (codes "target") refl) (λ (u : Unit). seq (law_one_word target_words (codes "triple") false refl) (λ (is_layout : Bool).
+    seq law_equals (λ (e : Unit). seq law_string (λ (s : List ℕ). done (target_of is_layout s)) refl) refl) refl) refl
 
 pub law_attributes : {w : Bool} → Law w attributes (begins_with attributes_word)
 unfolding attributes
 law_attributes =
     seq (is_word (codes "attributes") refl) (λ (u : Unit). seq law_hash (λ (n : List ℕ). seq law_equals (λ (e : Unit).
-    seq (law_group 123 125 refl) (λ (noinline : Bool). done (if noinline then entities.NoInline n else entities.Nothing)) refl) refl) refl) refl
+    seq (law_group 123 125 refl) (λ (noinline : Bool). done (group_of noinline n)) refl) refl) refl) refl
 
 law_metadata_rest : {w : Bool} → Law w metadata_rest (begins_with (sign 61))
 unfolding metadata_rest
@@ -84,7 +84,7 @@ law_global_var : {w : Bool} (l : Limits) → Law w (global_var l) (goes_on_with 
 unfolding global_var
 law_global_var l =
     seq (placed law_global refl) (λ (g : Place × SymId). seq law_equals (λ (e : Unit). seq (law_linkage false) (λ (i : Bool).
-    seq (law_one_word ((codes "global", false) ∷ (codes "constant", true) ∷ []) (codes "global") false refl) (λ (c : Bool). seq (law_type_form l) (λ (t : IrType). seq (law_init l) (λ (v : Const).
+    seq (law_one_word storage_words (codes "global") false refl) (λ (c : Bool). seq (law_type_form l) (λ (t : IrType). seq (law_init l) (λ (v : Const).
     seq (law_global_end l None) (λ (a : Option ℕ). done (entities.Global (record { place = g.0; name = g.1; internal = i; constant = c; ty = t; init = v; align = a }))) refl) refl) refl) refl) refl) refl) refl
 
 -- ---- functions

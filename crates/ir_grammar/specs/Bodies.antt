@@ -1,8 +1,9 @@
 -- Blocks and bodies.
-use Rattle.std.specs.Prelude.{Bool, true, false, List, [], ◌∷◌, ◌++◌, Option, Some, None, codes}
+use Rattle.std.specs.Prelude.{ℕ, Bool, true, false, List, [], ◌∷◌, ◌++◌, Option, Some, None, codes}
 use Rattle.oi_base.specs.declared.ids.Place.{Place}
 use Rattle.ir_core.specs.declared.ty.IrType.{IrType}
 use Rattle.ir_core.specs.declared.ty.IrType as types
+use Rattle.ir_core.specs.declared.constant.Const.{Const}
 use Rattle.ir_core.specs.declared.op.LocalId.{LocalId}
 use Rattle.ir_core.specs.declared.op.Operand.{Operand}
 use Rattle.ir_core.specs.declared.op.Operand.TheVariants as operands
@@ -38,25 +39,40 @@ abbrev pub Ended : Type 0
 Ended = End × Bool
 
 -- `void`: with a note behind it no value can come
+abbrev pub behind_void_word : Form Ended
+behind_void_word = either (sign 44) (behind_comma note >>= λ m. notes >>= λ n. ret (ends.Ret None, false)) (ret (ends.Ret None, true))
+
 unfoldable pub void_end : Form Ended
-void_end = expect void_word >>= λ w. either (sign 44) (behind_comma note >>= λ m. notes >>= λ n. ret (ends.Ret None, false)) (ret (ends.Ret None, true))
+void_end = expect void_word >>= λ w. behind_void_word
+
+-- type value
+abbrev pub value_end : Limits → Form Ended
+value_end l = value_type l >>= λ t. value l >>= λ v. notes >>= λ n. ret (ends.Ret (Some (record { ty = t; value = v })), false)
 
 -- ret void, or ret type value
 unfoldable pub ret_end : Limits → Form Ended
-ret_end l = expect (word (codes "ret")) >>= λ w. either void_word void_end (value_type l >>= λ t. value l >>= λ v. notes >>= λ n. ret (ends.Ret (Some (record { ty = t; value = v })), false))
+ret_end l = expect (word (codes "ret")) >>= λ w. either void_word void_end (value_end l)
 
--- `label` LOCAL, or type value , label LOCAL , label LOCAL
+abbrev pub label_word : Set
+label_word = word (codes "label")
+
+abbrev pub label_end : Form End
+label_end = label >>= λ b. notes >>= λ n. ret (ends.Br b)
+
+-- type value , label LOCAL , label LOCAL
+abbrev pub cond_end : Limits → Form End
+cond_end l = do
+  c ← typed l
+  c1 ← expect (sign 44)
+  t ← label
+  c2 ← expect (sign 44)
+  f ← label
+  n ← notes
+  ret (ends.Cond c t f)
+
+-- br label LOCAL, or br type value , label LOCAL , label LOCAL
 unfoldable pub br_end : Limits → Form End
-br_end l = do
-  w ← expect (word (codes "br"))
-  either (word (codes "label")) (label >>= λ b. notes >>= λ n. ret (ends.Br b)) (do
-    c ← typed l
-    c1 ← expect (sign 44)
-    t ← label
-    c2 ← expect (sign 44)
-    f ← label
-    n ← notes
-    ret (ends.Cond c t f))
+br_end l = expect (word (codes "br")) >>= λ w. either label_word label_end (cond_end l)
 
 -- type value , label LOCAL
 unfoldable pub switch_case : Limits → Form SwitchCase
@@ -140,33 +156,48 @@ settled bs b v = record { done = bs ++ valued b v ∷ []; waits = None }
 abbrev pub begun : Limits → List Block → Place → (LocalId × (LocalId × Op)) → Form Progress
 begun l bs p x = lines l x.0 (record { place = p; result = Some x.1.0; op = x.1.1 } ∷ []) >>= λ y. ret (grown bs y.bare (block_of p y))
 
+-- a block that the LOCAL of this name and place begins
+abbrev pub local_begins : Limits → List Block → Place → List ℕ → Form Progress
+local_begins l bs p n = expect (sign 61) >>= λ e. act define_next >>= λ k. act (define n) >>= λ r. op l >>= λ o. begun l bs p (k, (r, o))
+
+abbrev pub local_settles : List Block → Block → List ℕ → Form Progress
+local_settles bs b n = act (local n) >>= λ x. notes >>= λ e. ret (settled bs b (operands.Local x))
+
 -- Behind `ret void`: LOCAL is its value, or with `=` the first instruction of the next block
 unfoldable pub local_behind : Limits → List Block → Block → Form Progress
-local_behind l bs b = do
-  n ← located (text kinds.Local)
-  either (sign 61)
-      (expect (sign 61) >>= λ e. act define_next >>= λ k. act (define n.1) >>= λ r. op l >>= λ o. begun l (bs ++ b ∷ []) n.0 (k, (r, o)))
-      (act (local n.1) >>= λ x. notes >>= λ e. ret (settled bs b (operands.Local x)))
+local_behind l bs b = located (text kinds.Local) >>= λ n. either (sign 61) (local_begins l (bs ++ b ∷ []) n.0 n.1) (local_settles bs b n.1)
+
+abbrev pub gep_settles : Limits → List Block → Block → Form Progress
+gep_settles l bs b = gep_rest l.length l.levels >>= λ c. notes >>= λ e. ret (settled bs b (operands.Const c))
+
+-- a block that a `getelementptr` at this place begins
+abbrev pub gep_begins : Limits → List Block → Place → Form Progress
+gep_begins l bs p = act define_next >>= λ k. act define_next >>= λ r. gep_op_rest l >>= λ o. begun l bs p (k, (r, o))
 
 -- Behind `ret void`: `getelementptr` is its value where a bracket follows, else the first instruction of the next block
 unfoldable pub gep_behind : Limits → List Block → Block → Form Progress
 gep_behind l bs b = do
   g ← located (expect gep_word)
   f ← gep_flags
-  either (sign 40)
-      (gep_rest l.length l.levels >>= λ c. notes >>= λ e. ret (settled bs b (operands.Const c)))
-      (act define_next >>= λ k. act define_next >>= λ r. gep_op_rest l >>= λ o. begun l (bs ++ b ∷ []) g.0 (k, (r, o)))
+  either (sign 40) (gep_settles l bs b) (gep_begins l (bs ++ b ∷ []) g.0)
 
 abbrev pub plain_value_set : Set
 plain_value_set = kind kinds.Global ++ kind kinds.Int ++ words_of const_words
 
+abbrev pub plain_value : Form Const
+plain_value = either (kind kinds.Global) address (either (kind kinds.Int) integer (one_word const_words))
+
 -- Behind `ret void`: another value
 unfoldable pub value_behind : List Block → Block → Form Progress
-value_behind bs b = either (kind kinds.Global) address (either (kind kinds.Int) integer (one_word const_words)) >>= λ c. notes >>= λ e. ret (settled bs b (operands.Const c))
+value_behind bs b = plain_value >>= λ c. notes >>= λ e. ret (settled bs b (operands.Const c))
+
+-- such a first line, and the lines behind it
+abbrev pub lines_behind : Limits → LocalId → Form Lines
+lines_behind l b = located (other_line l) >>= λ x. lines l b (with_instr [] (instr_at x.0 x.1))
 
 -- the lines of a block without a label, of which the first begins with another word than `getelementptr`
 unfoldable pub other_lines : Limits → LocalId → Form Lines
-other_lines l b = either other_line_set (located (other_line l) >>= λ x. lines l b (with_instr [] (instr_at x.0 x.1))) (finish l b [])
+other_lines l b = either other_line_set (lines_behind l b) (finish l b [])
 
 unfoldable pub other_unlabelled : Limits → Form Lines
 other_unlabelled l = act define_next >>= λ b. other_lines l b

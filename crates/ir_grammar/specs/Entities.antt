@@ -1,5 +1,5 @@
 -- Entities and modules.
-use Rattle.std.specs.Prelude.{ℕ, ◌+◌, Bool, true, false, ◌||◌, List, [], ◌∷◌, ◌++◌, map, length, Option, Some, None, if◌then◌else◌, codes}
+use Rattle.std.specs.Prelude.{ℕ, ◌+◌, Bool, true, false, ◌||◌, List, [], ◌∷◌, ◌++◌, map, length, Option, Some, None, codes}
 use Rattle.std.specs.List.{list_any}
 use Rattle.std.specs.Str.{bytes_eq}
 use Rattle.ir_lexer.specs.declared.table.Token.{Token}
@@ -42,17 +42,29 @@ source_filename = expect source_word >>= λ w. equals >>= λ e. text kinds.Str >
 abbrev pub target_word : Set
 target_word = word (codes "target")
 
+-- the words after `target`, each with whether it is `datalayout`
+abbrev pub target_words : List (List ℕ × Bool)
+target_words = (codes "datalayout", true) ∷ (codes "triple", false) ∷ []
+
+abbrev pub target_of : Bool → List ℕ → Entity
+target_of true s = entities.Layout s
+target_of false s = entities.Triple s
+
 -- target (datalayout | triple) = STRING
 unfoldable pub target : Form Entity
 target = do
   w ← expect target_word
-  is_layout ← one_word ((codes "datalayout", true) ∷ (codes "triple", false) ∷ [])
+  is_layout ← one_word target_words
   e ← equals
   s ← text kinds.Str
-  ret (if is_layout then entities.Layout s else entities.Triple s)
+  ret (target_of is_layout s)
 
 abbrev pub attributes_word : Set
 attributes_word = word (codes "attributes")
+
+abbrev pub group_of : Bool → List ℕ → Entity
+group_of true n = entities.NoInline n
+group_of false n = entities.Nothing
 
 -- attributes HASH = GROUP
 unfoldable pub attributes : Form Entity
@@ -61,7 +73,7 @@ attributes = do
   n ← text kinds.Hash
   e ← equals
   noinline ← group 123 125
-  ret (if noinline then entities.NoInline n else entities.Nothing)
+  ret (group_of noinline n)
 
 abbrev pub distinct_word : Set
 distinct_word = word (codes "distinct")
@@ -91,13 +103,27 @@ abbrev pub global_words : List (List ℕ × Bool)
 global_words = (codes "internal", true) ∷ (codes "private", true) ∷ (codes "dso_local", false) ∷ (codes "dso_preemptable", false) ∷ (codes "default", false)
     ∷ (codes "hidden", false) ∷ (codes "protected", false) ∷ (codes "unnamed_addr", false) ∷ (codes "local_unnamed_addr", false) ∷ []
 
+abbrev pub one_linkage : Bool → Form Bool
+one_linkage b = one_word global_words >>= λ i. ret (b || i)
+
 -- { gword }
 unfoldable pub linkage : Bool → Form Bool
-linkage = rounds (λ b. words_of global_words) (λ b. one_word global_words >>= λ i. ret (b || i)) (λ b. ret b)
+linkage = rounds (λ b. words_of global_words) one_linkage (λ b. ret b)
+
+-- the words before a global's type, each with whether the global is constant
+abbrev pub storage_words : List (List ℕ × Bool)
+storage_words = (codes "global", false) ∷ (codes "constant", true) ∷ []
+
+-- `align` INT, or a note where this is the `align` so far
+abbrev pub align_or_note : Limits → Option ℕ → Form (Option ℕ)
+align_or_note l a = either align_word (expect align_word >>= λ w. number l.length >>= λ n. ret (Some n)) (note >>= λ n. ret a)
+
+abbrev pub one_global_end : Limits → Option ℕ → Form (Option ℕ)
+one_global_end l a = expect (sign 44) >>= λ c. align_or_note l a
 
 -- { , gend }; the last `align` counts
 unfoldable pub global_end : Limits → Option ℕ → Form (Option ℕ)
-global_end l = rounds (λ a. sign 44) (λ a. expect (sign 44) >>= λ c. either align_word (expect align_word >>= λ w. number l.length >>= λ n. ret (Some n)) (note >>= λ n. ret a)) (λ a. ret a)
+global_end l = rounds (λ a. sign 44) (one_global_end l) (λ a. ret a)
 
 -- GLOBAL = { gword } (global | constant) type init { , gend }
 unfoldable pub global_var : Limits → Form Entity
@@ -105,7 +131,7 @@ global_var l = do
   g ← located global
   e ← equals
   i ← linkage false
-  c ← one_word ((codes "global", false) ∷ (codes "constant", true) ∷ [])
+  c ← one_word storage_words
   t ← type_form l
   v ← init l
   a ← global_end l None
@@ -222,20 +248,30 @@ module_of d s = record {
   triple = d.triple;
 }
 
+abbrev pub rest_of_note_or_metadata : Draft → Form Draft
+rest_of_note_or_metadata d = either (kind kinds.Meta ++ sign 33) (note_rest >>= λ n. ret d) (metadata_rest >>= λ r. ret (added d entities.Nothing))
+
 -- Behind a declaration a META begins a note of it, or with `=` a metadata entity
 unfoldable pub note_or_metadata : Draft → Form Draft
-note_or_metadata d = meta >>= λ m. either (kind kinds.Meta ++ sign 33) (note_rest >>= λ n. ret d) (metadata_rest >>= λ r. ret (added d entities.Nothing))
+note_or_metadata d = meta >>= λ m. rest_of_note_or_metadata d
+
+-- the entities with the next one, which begins with no META
+abbrev pub with_other_entity : Limits → Draft → Form Draft
+with_other_entity l d = other_entity l (length d.definitions) >>= λ e. ret (added d e)
+
+abbrev pub with_entity : Limits → Draft → Form Draft
+with_entity l d = entity l (length d.definitions) >>= λ e. ret (added d e)
 
 -- Behind a declaration: an attribute or a note of it, or the next entity
 unfoldable pub behind_declaration : Limits → Draft → Form Draft
 behind_declaration l d =
     either (kind kinds.Meta) (note_or_metadata d)
     (either (attribute_set barred.Nothing) (attribute barred.Nothing >>= λ a. ret d)
-    (other_entity l (length d.definitions) >>= λ e. ret (added d e)))
+    (with_other_entity l d))
 
 abbrev pub next_entity : Limits → Draft → Bool → Form Draft
 next_entity l d true = behind_declaration l d
-next_entity l d false = entity l (length d.definitions) >>= λ e. ret (added d e)
+next_entity l d false = with_entity l d
 
 abbrev pub next_set : Bool → Set
 next_set true = attribute_set barred.Nothing ++ entity_set

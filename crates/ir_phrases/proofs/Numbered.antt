@@ -1,11 +1,15 @@
 -- Positions in a list that is mapped, and whether there is one.
-use Rattle.std.proofs.Common.{◌≡◌, ℕ, zero, suc, take, ◌+◌, Bool, true, false, cond, List, [], ◌∷◌, ◌++◌, length, map, position, Some, None, refl, sym, ap, ◌∙◌, add-one, arith}
+use Rattle.std.proofs.Common.{◌≡◌, ℕ, zero, suc, take, ◌+◌, Bool, true, false, cond, List, [], ◌∷◌, ◌++◌, length, map, position, Option, Some, None, ◌<◌, get_or, is_some, refl, sym, ap, ◌∙◌, add-one, arith}
 use Rattle.std.specs.Prelude.{nat_lt, if◌then◌else◌, not, ◌||◌}
 use Rattle.std.specs.List.{position_or_len, prefix_len, list_any}
 use Rattle.std.specs.Str.{bytes_eq}
+use Rattle.ir_grammar.specs.Sets.{among}
+use Rattle.ir_grammar.specs.Names.{placed, numbered}
 use Rattle.std.specs.Global.{Vec}
 use Rattle.std.proofs.lemmas.Bool.Decides.{nat_tests}
 use Rattle.std.proofs.lemmas.List.{length-map, map-append}
+use Rattle.std.proofs.lemmas.Slice.Eq.{bytes_eq-Decides}
+use Rattle.std.proofs.Math.Seq.{take-suc}
 
 position_or_len-map : {X Y : Type 0} (p : Y → Bool) (f : X → Y) (xs : List X) → position_or_len (λ x. p (f x)) xs ≡ position_or_len p (map f xs)
 position_or_len-map p f [] = refl
@@ -47,3 +51,41 @@ take-map f zero [] = refl
 take-map f zero (x ∷ xs) = refl
 take-map f (suc n) [] = refl
 take-map f (suc n) (x ∷ xs) = ap (λ ys. f x ∷ ys) (take-map f n xs)
+
+-- a name is among names exactly where it has a position
+pub among_found : (name : List ℕ) (names : List (List ℕ)) → is_some (position (bytes_eq name) names) ≡ among names name
+among_found name names = is_there (nat_lt (position_or_len (bytes_eq name) names) (length names)) (position_or_len (bytes_eq name) names) ∙ lt-list_any (bytes_eq name) names ∙ sym (among_any names)
+  where
+    is_there : (b : Bool) (n : ℕ) → is_some (cond b (Some n) None) ≡ b
+    is_there true n = refl
+    is_there false n = refl
+    among_any : (vs : List (List ℕ)) → among vs name ≡ list_any (bytes_eq name) vs
+    among_any [] = refl
+    among_any (v ∷ vs) = ap (λ b. bytes_eq name v || b) (among_any vs)
+
+pub among_more : (vs : List (List ℕ)) (v name : List ℕ) → among (vs ++ v ∷ []) name ≡ (among vs name || bytes_eq name v)
+among_more [] v name = elim (bytes_eq name v) as (λ b. (b || false) ≡ (false || b)) [ true ↦ refl | false ↦ refl ]
+among_more (u ∷ vs) v name = elim (bytes_eq name u) as (λ b. (b || among (vs ++ v ∷ []) name) ≡ ((b || among vs name) || bytes_eq name v)) [ true ↦ refl | false ↦ among_more vs v name ]
+
+-- a name that appears is among those behind it
+pub among_seen : (vs : List (List ℕ)) (v name : List ℕ) → among (numbered v vs).1 name ≡ (among vs name || bytes_eq name v)
+unfolding numbered
+among_seen vs v name = seen (position (bytes_eq v) vs) refl
+  where
+    already : (b c : Bool) → (c ≡ true → b ≡ true) → b ≡ (b || c)
+    already true c h = refl
+    already false true h = h refl
+    already false false h = refl
+    is_it : bytes_eq name v ≡ true → name ≡ v
+    is_it e = (bytes_eq-Decides name v).0 e
+    seen : (at : Option ℕ) → position (bytes_eq v) vs ≡ at → among (placed at v vs).1 name ≡ (among vs name || bytes_eq name v)
+    seen None e = among_more vs v name
+    seen (Some k) e = already (among vs name) (bytes_eq name v) (λ h. rw (is_it h) (sym (among_found v vs) ∙ ap is_some e))
+
+-- one more name of a list goes in
+pub among_step : (names : List (List ℕ)) (i : ℕ) (item v : List ℕ) (old new : List (List ℕ)) → i < length names → item ≡ get_or names i item → v ≡ item → new ≡ (numbered v old).1
+    → ((name : List ℕ) → among old name ≡ among (take i names) name) → (name : List ℕ) → among new name ≡ among (take (i + 1) names) name
+among_step names i item v old new within is same step so_far name =
+    let up : i + 1 ≡ suc i = omega arith in
+    let grown : take (i + 1) names ≡ take i names ++ item ∷ [] = ap (λ n. take n names) up ∙ take-suc names i item within ∙ ap (λ x. take i names ++ x ∷ []) (sym is) in
+    rw (step, same, grown) (among_seen old item name ∙ ap (λ b. b || bytes_eq name item) (so_far name) ∙ sym (among_more (take i names) item name))

@@ -8,6 +8,7 @@ use Rattle.ir_phrases.specs.declared.ahead.Ahead.{Ahead}
 use Rattle.ir_phrases.specs.declared.ahead.Ahead.TheVariants as aheads
 use Rattle.ir_phrases.specs.declared.fault.ReadFault.{ReadFault}
 use Rattle.ir_phrases.specs.declared.fault.ReadFault.TheVariants as faults
+use Rattle.ir_grammar.specs.declared.which.Which.{Which}
 use Rattle.ir_grammar.specs.Pieces.{Piece, Is, Bad}
 use Rattle.ir_grammar.specs.Words.{is_left_out}
 use Rattle.ir_grammar.specs.Forms.{Left, Outcome, Fault, Why, Refused, Exceeds, Verdict, Takes, Refuses, place_of}
@@ -68,3 +69,19 @@ abbrev pub head_word : List Piece → Option (List ℕ)
 head_word [] = None
 head_word (Is s ∷ ts) = word_in s.token
 head_word (Bad e ∷ ts) = None
+
+-- the name after `@` that stands next, if one does
+abbrev pub global_in : Token → Option (List ℕ)
+global_in (tokens.Global n) = Some n
+global_in t = None
+
+abbrev pub head_global : List Piece → Option (List ℕ)
+head_global [] = None
+head_global (Is s ∷ ts) = global_in s.token
+head_global (Bad e ∷ ts) = None
+
+-- the fault where whatever token stands next exceeds a limit
+abbrev pub beyond : Which → List Piece → ReadFault
+beyond w [] = refused []
+beyond w (Is s ∷ ts) = faults.Limit s.place w
+beyond w (Bad e ∷ ts) = faults.Lexical e

@@ -2,7 +2,7 @@ ghost use Rattle.std.specs.Prelude.{◌≡◌, Some, None};
 ghost use Rattle.std.specs.Option.{option_map};
 ghost use Rattle.ir_grammar.specs.declared.kinds.Kind.TheVariants as kinds;
 ghost use Rattle.ir_grammar.specs.Sets.{head_in, IsWord, kind_if, hash_kind, meta_kind};
-ghost use Rattle.ir_phrases.specs.Gives.{Gives, head_word};
+ghost use Rattle.ir_phrases.specs.Gives.{Gives, head_word, head_global};
 ghost use Rattle.ir_grammar.specs.Tokens.{expect, sign as sign_set, word as word_set, kind as kind_set, text as text_form, int as int_form, number as number_form, stated};
 
 use crate::ahead::Ahead;
@@ -48,6 +48,19 @@ impl<'a> Reader<'a> {
         match &self.ahead {
             Ahead::Token(spot) => match &spot.token {
                 Token::Word(found) => Some(found.as_slice()),
+                _ => None,
+            },
+            _ => None,
+        }
+    }
+
+    /// The name after `@` that stands next, if one does.
+    pub fn next_global(&self) -> Option<&[u8]>
+        ensures { option_map (λ n. n.now) result ≡ head_global self.now.tokens }
+    {
+        match &self.ahead {
+            Ahead::Token(spot) => match &spot.token {
+                Token::Global(found) => Some(found.as_slice()),
                 _ => None,
             },
             _ => None,

@@ -18,6 +18,8 @@ mod words;
 pub use attributing::no_marks;
 pub use fault::ReadFault;
 pub use reader::Reader;
+pub use table::Table;
+pub use typing::MOST_LEVELS;
 
 #[cfg(test)]
 mod tests;

@@ -1,13 +1,15 @@
-ghost use Rattle.std.specs.Prelude.{◌≡◌, ◌+◌, IfOk};
+ghost use Rattle.std.specs.Prelude.{◌≡◌, ◌+◌, length, IfOk};
 ghost use Rattle.std.specs.Fmt.{decimal};
-ghost use Rattle.ir_grammar.specs.Names.{symbol, type_name, local, define, define_next, appended, written, next_behind};
+ghost use Rattle.ir_grammar.specs.Names.{symbol, type_name, local, define, define_next, appended, written, next_behind, no_locals};
+ghost use Rattle.ir_grammar.specs.Operations.{keep_types};
 ghost use Rattle.ir_grammar.specs.Forms.{act};
 ghost use Rattle.ir_phrases.specs.Gives.{Gives};
 
 use crate::fault::ReadFault;
 use crate::reader::Reader;
+use crate::table::Table;
 use crate::words::are_digits;
-use ir_core::{LocalId, SymId, TypeName};
+use ir_core::{LocalId, SymId, Texts, TypeName};
 use oi_base::{NoMemory, Text};
 use std::alloc::Global;
 
@@ -58,6 +60,49 @@ impl<'a> Reader<'a> {
     {
         let name = decimal(self.alloc, self.next)?;
         self.define(name)
+    }
+
+    /// How many type names appeared.
+    pub fn type_count(&self) -> usize
+        ensures { result ≡ length self.now.names.types }
+    {
+        self.types.len()
+    }
+
+    /// Takes all type names but the first away again.
+    pub fn keep_types(&mut self, so_many: usize)
+        ensures { self.new ≡ record { names = (keep_types so_many self.old.names).1; tokens = self.old.tokens } }
+    {
+        self.types.truncate(so_many);
+    }
+
+    /// A function begins.
+    pub fn forget_locals(&mut self)
+        ensures { self.new ≡ record { names = no_locals self.old.names; tokens = self.old.tokens } }
+    {
+        self.locals = Table::new(self.alloc);
+        self.next = 0;
+    }
+
+    /// The names after `@` so far, in order of first appearance.
+    pub fn symbol_names(&self) -> Result<Texts, NoMemory>
+        ensures { IfOk result (λ ts. ts ≡ self.now.names.symbols) }
+    {
+        self.symbols.names(self.alloc)
+    }
+
+    /// The type names so far, in order of first appearance.
+    pub fn type_names(&self) -> Result<Texts, NoMemory>
+        ensures { IfOk result (λ ts. ts ≡ self.now.names.types) }
+    {
+        self.types.names(self.alloc)
+    }
+
+    /// The parameters, registers and labels of the function so far, in order of first appearance.
+    pub fn local_names(&self) -> Result<Texts, NoMemory>
+        ensures { IfOk result (λ ts. ts ≡ self.now.names.locals) }
+    {
+        self.locals.names(self.alloc)
     }
 }
 

@@ -4,7 +4,7 @@ ghost use Rattle.ir_phrases.specs.declared.fault.ReadFault.TheVariants as faults
 ghost use Rattle.ir_grammar.specs.Pieces.{pieces, lexical_place};
 ghost use Rattle.ir_grammar.specs.Names.{no_names};
 ghost use Rattle.ir_grammar.specs.Forms.{place_of};
-ghost use Rattle.ir_phrases.specs.Gives.{Passes, refused};
+ghost use Rattle.ir_phrases.specs.Gives.{Passes, refused, beyond};
 
 use crate::ahead::{Ahead, next_ahead};
 use crate::fault::ReadFault;
@@ -127,5 +127,15 @@ impl<'a> Reader<'a> {
         ensures { result ≡ faults.Limit (place_of self.now.tokens) which }
     {
         ReadFault::Limit(self.place(), which)
+    }
+
+    /// The fault where whatever token stands next passes a limit.
+    pub fn beyond(&self, which: Which) -> ReadFault
+        ensures { result ≡ beyond which self.now.tokens }
+    {
+        match &self.ahead {
+            Ahead::Token(_) => self.limit(which),
+            Ahead::Fault(_) | Ahead::Nothing => self.fault(),
+        }
     }
 }

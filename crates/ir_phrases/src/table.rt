@@ -1,6 +1,7 @@
-ghost use Rattle.std.specs.Prelude.{◌≡◌, [], ◌∷◌, ◌++◌, None, length, position, take, IfOk, OnOk};
+ghost use Rattle.std.specs.Prelude.{◌≡◌, ℕ, List, [], ◌∷◌, ◌++◌, None, length, map, position, take, IfOk, OnOk};
 ghost use Rattle.std.specs.Str.{bytes_eq};
 ghost use Rattle.ir_grammar.specs.Names.{numbered};
+ghost use Rattle.ir_grammar.specs.Sets.{among};
 
 use indexmap::IndexSet;
 use ir_core::Texts;
@@ -66,12 +67,48 @@ impl Table {
         Ok(at)
     }
 
+    /// Does the name appear?
+    pub fn has(&self, name: &[u8]) -> bool
+        ensures { result ≡ among self.now name.now }
+    {
+        self.find(name).is_some()
+    }
+
+    /// The table of these names.
+    pub fn of(alloc: Global, names: &[Text]) -> Result<Table, NoMemory>
+        ensures { IfOk result (λ t. (name : List ℕ) → among t name ≡ among names.now name) }
+    {
+        let mut table = Table::new(alloc);
+        for name in names {
+            table.see(alloc, name.as_slice())?;
+        }
+        Ok(table)
+    }
+
+    /// The names in their order.
+    pub fn names(&self, alloc: Global) -> Result<Texts, NoMemory>
+        ensures { IfOk result (λ ts. ts ≡ self.now) }
+    {
+        texts_of(alloc, self.set.as_slice())
+    }
+
     /// Keeps the first names alone.
     pub fn truncate(&mut self, len: usize)
         ensures { self.new ≡ take len self.old }
     {
         self.set.truncate(len);
     }
+}
+
+/// Byte strings as texts.
+fn texts_of(alloc: Global, names: &[Vec<u8>]) -> Result<Texts, NoMemory>
+    ensures { IfOk result (λ ts. ts ≡ map (λ v. v.items) names.now) }
+{
+    let mut texts = Texts::new(alloc);
+    for name in names {
+        texts.push(Text::from_slice(alloc, name.as_slice())?)?;
+    }
+    Ok(texts)
 }
 
 /// A position as 32 bits; no text has more names than bytes.

@@ -2,6 +2,7 @@ ghost use Rattle.std.specs.Prelude.{◌≡◌, IfOk};
 ghost use Rattle.ir_grammar.specs.Sets.{head_in, has, number, same_kind, meta_kind, hash_kind};
 ghost use Rattle.ir_phrases.specs.Gives.{Gives};
 ghost use Rattle.ir_grammar.specs.Tokens.{kind as kind_set, bytes_of, text as text_form, expect};
+ghost use Rattle.ir_grammar.specs.Entities.{before_name};
 
 use crate::ahead::Ahead;
 use crate::fault::ReadFault;
@@ -124,5 +125,27 @@ impl<'a> Reader<'a> {
         };
         self.pass()?;
         Ok(text)
+    }
+
+    /// Does a token stand next that is neither the end nor a name after `@`?
+    pub fn is_before_name(&self) -> bool
+        ensures { result ≡ head_in before_name self.now.tokens }
+    {
+        match &self.ahead {
+            Ahead::Token(spot) => {
+                !has_kind(&spot.token, Kind::Global) && !has_kind(&spot.token, Kind::End)
+            }
+            Ahead::Fault(_) | Ahead::Nothing => false,
+        }
+    }
+
+    /// Takes such a token.
+    pub fn before_name(&mut self) -> Result<(), ReadFault>
+        ensures { Gives result self.new ((expect before_name).parse self.old) }
+    {
+        if !self.is_before_name() {
+            return Err(self.fault());
+        }
+        self.pass()
     }
 }

@@ -2,7 +2,7 @@ ghost use Rattle.std.specs.Prelude.{◌≡◌, Some};
 ghost use Rattle.ir_grammar.specs.Sets.{head_in};
 ghost use Rattle.ir_phrases.specs.Gives.{Gives, IsVerdict};
 ghost use Rattle.ir_grammar.specs.Tokens.{look, words_of, one_word, skip, expect, stated};
-ghost use Rattle.ir_grammar.specs.Operations.{align_then_notes, note_then_notes, align_or_notes, align_and_notes, bin_words, bin_flag, bin, order_words, may_samesign, icmp, select, cast_words, cast_flag, cast, load, store, other_op};
+ghost use Rattle.ir_grammar.specs.Operations.{align_then_notes, note_then_notes, align_or_notes, align_and_notes, bin_words, bin_flag, bin, order_words, may_samesign, icmp, select, cast_words, cast_flag, cast, load, store, other_words, other_op};
 
 use ir_core::{BinOp, CastOp, Cmp, Op};
 use ir_phrases::{ReadFault, Reader};
@@ -133,7 +133,7 @@ pub fn align_and_notes(reader: &mut Reader<'_>) -> Result<Option<u32>, ReadFault
     align_or_notes(reader)
 }
 
-pub fn is_bin(reader: &Reader<'_>) -> bool
+fn is_bin(reader: &Reader<'_>) -> bool
     ensures { result ≡ head_in (words_of bin_words) reader.now.tokens }
 {
     match reader.next_word() {
@@ -155,7 +155,7 @@ fn bin_op(reader: &mut Reader<'_>) -> Result<BinOp, ReadFault>
     Ok(op)
 }
 
-pub fn is_cast(reader: &Reader<'_>) -> bool
+fn is_cast(reader: &Reader<'_>) -> bool
     ensures { result ≡ head_in (words_of cast_words) reader.now.tokens }
 {
     match reader.next_word() {
@@ -322,7 +322,7 @@ fn load(reader: &mut Reader<'_>) -> Result<Op, ReadFault>
 }
 
 #[tactic(auto, unfolding(ir_grammar::specs::Operations::store))]
-fn store(reader: &mut Reader<'_>) -> Result<Op, ReadFault>
+pub fn store(reader: &mut Reader<'_>) -> Result<Op, ReadFault>
     ensures { Gives result reader.new ((store stated).parse reader.old) }
 {
     reader.word(b"store")?;
@@ -331,6 +331,19 @@ fn store(reader: &mut Reader<'_>) -> Result<Op, ReadFault>
     let address = reader.typed()?;
     let align = align_and_notes(reader)?;
     Ok(Op::Store(value, address, align))
+}
+
+/// Does such an operation stand next?
+pub fn is_other_op(reader: &Reader<'_>) -> bool
+    ensures { result ≡ head_in other_words reader.now.tokens }
+{
+    is_bin(reader)
+        || reader.is_word(b"icmp")
+        || reader.is_word(b"select")
+        || is_cast(reader)
+        || reader.is_word(b"alloca")
+        || reader.is_word(b"load")
+        || reader.is_word(b"phi")
 }
 
 /// An operation that has a result, but a call or a `getelementptr`.
