@@ -1,6 +1,6 @@
 -- The laws of notes and attributes.
 use Rattle.std.proofs.Common.{◌≡◌, ℕ, ℤ, Bool, true, false, ◌||◌, List, [], ◌∷◌, ◌++◌, refl}
-use Rattle.std.specs.Prelude.{not, codes}
+use Rattle.std.specs.Prelude.{codes}
 use Rattle.ir_lexer.specs.declared.table.Token.{Token}
 use Rattle.ir_lexer.specs.declared.table.Token.TheVariants as tokens
 use Rattle.ir_core.specs.declared.ty.IrType.{IrType}
@@ -17,14 +17,13 @@ use Rattle.ir_grammar.specs.declared.parts.Marks.{Marks}
 use Rattle.ir_grammar.specs.declared.parts.Stand.{Stand}
 use Rattle.ir_grammar.specs.declared.parts.Stand.TheVariants.{Free, AfterWord, AfterInt}
 use Rattle.ir_grammar.specs.Pieces.{Piece, Is, Bad}
-use Rattle.ir_grammar.specs.Sets.{Set, is_integer_type, among, has, head_in, apart}
+use Rattle.ir_grammar.specs.Sets.{Set, is_integer_type, among, head_in, apart}
 use Rattle.ir_grammar.specs.Words.{no_attributes}
-use Rattle.ir_grammar.specs.Forms.{Takes}
 use Rattle.ir_grammar.specs.Tokens.{Limits, sign, kind, words_of, text}
 use Rattle.ir_grammar.specs.Types.{type_set}
 use Rattle.ir_grammar.specs.Values.{gep_word, const_words, value_set}
 use Rattle.ir_grammar.specs.Attributes.{meta, node, note_rest, note, notes, attribute_if, attribute_word_of, attribute_words, attribute_word, attribute_argument, attribute_value, attribute_set, attribute, marked, one_mark, mark_or_note, attribute_list, attributes_and_notes, not_word, any_attribute, more_set, more, no_integer, last, argument_value, argument}
-use Rattle.ir_grammar.proofs.FormLaws.{Shape, Law}
+use Rattle.ir_grammar.proofs.FormLaws.{Shape, Law, Fits}
 use Rattle.ir_grammar.proofs.LawsOfRounds.{law_rounds, rounds_greedy}
 use Rattle.ir_grammar.proofs.Within.{within_head}
 use Rattle.ir_grammar.proofs.Rules.{begins_with, goes_on_with, maybe, seq, or, again, done, expects, takes, shaped, going_on}
@@ -57,31 +56,30 @@ law_notes = law_skip (law_behind_comma law_note) refl refl refl
 
 -- ---- attributes
 
-word_taken : (b : Bool) (n : List ℕ) (a : Attribute) → attribute_if b n ≡ Takes a → not b ≡ true
-word_taken true n a e = absurd cc
-word_taken false n a e = refl
+attribute_fits : (b : Barred) (n : List ℕ) → Fits (attribute_words b) (tokens.Word n) (attribute_word_of b (tokens.Word n))
+attribute_fits b n = at (is_integer_type n || among (no_attributes b) n) refl
+  where
+    at : (c : Bool) → (is_integer_type n || among (no_attributes b) n) ≡ c → Fits (attribute_words b) (tokens.Word n) (attribute_if c n)
+    at true e = tt
+    at false e = rw e refl
 
-or_first : (a b : Bool) → a ≡ true → (a || b) ≡ true
-or_first true b e = refl
-or_first false b e = absurd cc
-
-word_starts : (b : Barred) (t : Token) (a : Attribute) → attribute_word_of b t ≡ Takes a → has (attribute_words b) t ≡ true
-word_starts b (tokens.Int n) a e = absurd cc
-word_starts b (tokens.Word n) a e = or_first (not (is_integer_type n || among (no_attributes b) n)) false (word_taken (is_integer_type n || among (no_attributes b) n) n a e)
-word_starts b (tokens.Label n) a e = absurd cc
-word_starts b (tokens.Local n) a e = absurd cc
-word_starts b (tokens.Global n) a e = absurd cc
-word_starts b (tokens.Str n) a e = absurd cc
-word_starts b (tokens.CStr n) a e = absurd cc
-word_starts b (tokens.Meta n) a e = absurd cc
-word_starts b (tokens.Hash n) a e = absurd cc
-word_starts b (tokens.Sign n) a e = absurd cc
-word_starts b tokens.End a e = absurd cc
+word_fits : (b : Barred) (t : Token) → Fits (attribute_words b) t (attribute_word_of b t)
+word_fits b (tokens.Word n) = attribute_fits b n
+word_fits b (tokens.Int n) = tt
+word_fits b (tokens.Label n) = tt
+word_fits b (tokens.Local n) = tt
+word_fits b (tokens.Global n) = tt
+word_fits b (tokens.Str n) = tt
+word_fits b (tokens.CStr n) = tt
+word_fits b (tokens.Meta n) = tt
+word_fits b (tokens.Hash n) = tt
+word_fits b (tokens.Sign n) = tt
+word_fits b tokens.End = tt
 
 pub law_attribute_word : {w : Bool} (b : Barred) → Law w (attribute_word b) (begins_with (attribute_words b))
-law_attribute_word barred.Nothing = takes (attribute_word_of barred.Nothing) (attribute_words barred.Nothing) (word_starts barred.Nothing) (tokens.Word (codes "noinline")) attributes.NoInline refl
-law_attribute_word barred.Values = takes (attribute_word_of barred.Values) (attribute_words barred.Values) (word_starts barred.Values) (tokens.Word (codes "noinline")) attributes.NoInline refl
-law_attribute_word barred.Code = takes (attribute_word_of barred.Code) (attribute_words barred.Code) (word_starts barred.Code) (tokens.Word (codes "noinline")) attributes.NoInline refl
+law_attribute_word barred.Nothing = takes (attribute_word_of barred.Nothing) (attribute_words barred.Nothing) (word_fits barred.Nothing) (tokens.Word (codes "noinline")) attributes.NoInline refl
+law_attribute_word barred.Values = takes (attribute_word_of barred.Values) (attribute_words barred.Values) (word_fits barred.Values) (tokens.Word (codes "noinline")) attributes.NoInline refl
+law_attribute_word barred.Code = takes (attribute_word_of barred.Code) (attribute_words barred.Code) (word_fits barred.Code) (tokens.Word (codes "noinline")) attributes.NoInline refl
 
 abbrev pub argument_greedy : Set
 argument_greedy = kind kinds.Int ++ sign 40

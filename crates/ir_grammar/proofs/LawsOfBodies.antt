@@ -33,18 +33,15 @@ use Rattle.ir_grammar.proofs.LawsOfTokens.{is_sign, is_word, law_text, law_behin
 use Rattle.ir_grammar.proofs.LawsOfTypes.{law_value_type}
 use Rattle.ir_grammar.proofs.LawsOfValues.{law_address, law_integer, law_const_word, law_gep_flags, law_gep_rest, law_value, law_typed}
 use Rattle.ir_grammar.proofs.LawsOfAttributes.{law_note, law_notes}
-use Rattle.ir_grammar.proofs.LawsOfOperations.{AnyParams, call_greedy, law_op, law_gep_op_rest, law_other_line, law_instr}
+use Rattle.ir_grammar.proofs.LawsOfOperations.{AnyParams, call_greedy, law_local_name, law_op, law_gep_op_rest, law_other_line, law_instr}
 
-law_local_name : {w : Bool} → Law w (text kinds.Local) (begins_with (kind kinds.Local))
-law_local_name = law_text kinds.Local (tokens.Local []) refl
-
-law_label : {w : Bool} → Law w label (begins_with (word (codes "label")))
+pub law_label : {w : Bool} → Law w label (begins_with (word (codes "label")))
 unfolding label
 law_label = seq (is_word (codes "label") refl) (λ (u : Unit). seq law_local_name (λ (n : List ℕ). does (local n)) refl) refl
 
 -- ---- terminators
 
-law_void_end : {w : Bool} → Law w void_end (goes_on_with void_word (sign 44))
+pub law_void_end : {w : Bool} → Law w void_end (goes_on_with void_word (sign 44))
 unfolding void_end
 law_void_end =
     shaped (seq (is_word (codes "void") refl) (λ (u : Unit). or (seq (law_behind_comma law_note) (λ (m : Unit). seq law_notes (λ (n : Unit). done (ends.Ret None, false)) refl) refl) (done (ends.Ret None, true)) refl refl) refl) void_word (sign 44) refl refl
@@ -72,7 +69,7 @@ law_switch_end l =
     seq (is_word (codes "switch") refl) (λ (u : Unit). seq (law_typed l) (λ (v : TypedOperand). seq (is_sign 44 refl) (λ (c : Unit). seq law_label (λ (b : LocalId). seq (is_sign 91 refl) (λ (o : Unit).
     seq (collect (law_switch_case l) refl refl refl []) (λ (cs : List SwitchCase). seq (is_sign 93 refl) (λ (d : Unit). seq law_notes (λ (n : Unit). done (ends.Switch v b cs)) refl) refl) refl) refl) refl) refl) refl) refl
 
-law_unreachable : {w : Bool} → Law w unreachable_end (goes_on_with (word (codes "unreachable")) (sign 44))
+pub law_unreachable : {w : Bool} → Law w unreachable_end (goes_on_with (word (codes "unreachable")) (sign 44))
 unfolding unreachable_end
 law_unreachable = seq (is_word (codes "unreachable") refl) (λ (u : Unit). seq law_notes (λ (n : Unit). done ends.Unreachable) refl) refl
 
@@ -99,9 +96,12 @@ law_lines : {w : Bool} (l : Limits) → AnyParams w l → (b : LocalId) (is : Li
 unfolding lines
 law_lines l h b is = seq (law_code l h is) (λ (js : List Instr). law_finish l b js) refl
 
+pub law_label_name : {w : Bool} → Law w (text kinds.Label) (begins_with (kind kinds.Label))
+law_label_name = law_text kinds.Label (tokens.Label []) refl
+
 law_labelled : {w : Bool} (l : Limits) → AnyParams w l → Law w (labelled l) (goes_on_with (kind kinds.Label) (sign 44))
 unfolding labelled
-law_labelled l h = seq (law_text kinds.Label (tokens.Label []) refl) (λ (n : List ℕ). seq (does (define n)) (λ (b : LocalId). law_lines l h b []) refl) refl
+law_labelled l h = seq law_label_name (λ (n : List ℕ). seq (does (define n)) (λ (b : LocalId). law_lines l h b []) refl) refl
 
 law_unlabelled : {w : Bool} (l : Limits) → AnyParams w l → Law w (unlabelled l) (goes_on_with lines_set (sign 44))
 unfolding unlabelled
@@ -133,7 +133,7 @@ law_gep_behind l h bs b =
     (seq (law_gep_rest l.length l.levels) (λ (c : Const). seq law_notes (λ (e : Unit). done (settled bs b (operands.Const c))) refl) refl)
     (seq (does define_next) (λ (k : LocalId). seq (does define_next) (λ (r : LocalId). seq (law_gep_op_rest l) (λ (o : Op). law_begun l h (bs ++ b ∷ []) g.0 (k, (r, o))) refl) refl) refl) refl refl) refl) refl) gep_word (sign 44) refl refl
 
-law_value_behind : {w : Bool} (bs : List Block) (b : Block) → Law w (value_behind bs b) (goes_on_with plain_value_set (sign 44))
+pub law_value_behind : {w : Bool} (bs : List Block) (b : Block) → Law w (value_behind bs b) (goes_on_with plain_value_set (sign 44))
 unfolding value_behind
 law_value_behind bs b =
     shaped (seq (or law_address (or law_integer law_const_word refl refl) refl refl) (λ (c : Const). seq law_notes (λ (e : Unit). done (settled bs b (operands.Const c))) refl) refl) plain_value_set (sign 44) refl refl
@@ -177,14 +177,14 @@ apart_next : (o : Option Block) → apart local_greedy (next_set o) ≡ true
 apart_next None = refl
 apart_next (Some b) = refl
 
-last_block : {w : Bool} (p : Progress) → Law w (last_blocks p) (begins_with (sign 125))
-last_block p = seq (is_sign 125 refl) (λ (c : Unit). done (all_blocks p.done p.waits)) refl
+pub law_last_blocks : {w : Bool} (p : Progress) → Law w (last_blocks p) (begins_with (sign 125))
+law_last_blocks p = seq (is_sign 125 refl) (λ (c : Unit). done (all_blocks p.done p.waits)) refl
 
 law_more_blocks : {w : Bool} (l : Limits) → AnyParams w l → (p : Progress) → Law w (more_blocks l p) (begins_with (next_set p.waits ++ sign 125))
 unfolding more_blocks
 law_more_blocks l h p =
     law_rounds (λ (p : Progress). next_set p.waits) (λ (p : Progress). next_block l p.done p.waits) (λ (p : Progress). last_blocks p) (λ (p : Progress). z p.waits) (λ (p : Progress). begins_with (sign 125)) []
-    (λ (p : Progress). law_next_block l h p.done p.waits) (λ (p : Progress). last_block p)
+    (λ (p : Progress). law_next_block l h p.done p.waits) (λ (p : Progress). law_last_blocks p)
     (λ p. refl) (λ p. refl) (λ p. apart_stop p.waits) (λ p p2. apart_next p2.waits) (λ p p2. refl) (λ p p2 ts e. e) p
 
 abbrev more_set : Set

@@ -5,13 +5,14 @@ use Rattle.std.proofs.lemmas.List.{length-append}
 use Rattle.std.proofs.lemmas.Bool.Decides.{nat_tests}
 use Rattle.ir_lexer.specs.declared.table.Token.{Token}
 use Rattle.ir_lexer.specs.declared.table.Token.TheVariants as tokens
-use Rattle.ir_grammar.specs.Pieces.{Piece, Is, Bad}
+use Rattle.ir_lexer.specs.Lexing.{is_end}
+use Rattle.ir_grammar.specs.Pieces.{Piece, Is, Bad, is_last}
 use Rattle.ir_grammar.specs.Names.{Names}
 use Rattle.ir_grammar.specs.Forms.{Left, Outcome, Refused}
 use Rattle.ir_grammar.specs.Sets.{Any, has, in_set}
 use Rattle.ir_grammar.specs.Tokens.{sign}
-use Rattle.ir_grammar.specs.Groups.{sign_awaits, awaits, Inside, is_noinline, sees_noinline, fed, inside_at, inside, group}
-use Rattle.ir_grammar.proofs.FormLaws.{Law, Heads, Traced, after, left}
+use Rattle.ir_grammar.specs.Groups.{sign_awaits, token_awaits, awaits, Inside, is_noinline, sees_noinline, fed, inside_at, inside, group}
+use Rattle.ir_grammar.proofs.FormLaws.{Law, Heads, Traced, Faulted, any_token, after, left}
 use Rattle.ir_grammar.proofs.Rules.{spot, begins_with, seq, expects}
 
 awaited : (a : ℕ) (as' : List ℕ) → sign_awaits a as' a ≡ Some as'
@@ -60,23 +61,49 @@ goes [] t v rest (a ∷ as') b s h = subst (λ o. length (after (fed o (λ next.
 goes (q ∷ u) t v rest [] b s h = absurd h
 goes (q ∷ u) t v rest (a ∷ as') b s h = subst (λ o. length (after (fed o (λ next. inside_at (u ++ t ∷ rest) next (b || is_noinline q) s) (Err (record { at = q ∷ u ++ t ∷ rest; why = Refused })))) ≤ length rest) (sym h.1) (goes u t v rest h.0 (b || is_noinline q) s h.2)
 
-any_token : (t : Token) → has (Any ∷ []) t ≡ true
-any_token (tokens.Int n) = refl
-any_token (tokens.Word n) = refl
-any_token (tokens.Label n) = refl
-any_token (tokens.Local n) = refl
-any_token (tokens.Global n) = refl
-any_token (tokens.Str n) = refl
-any_token (tokens.CStr n) = refl
-any_token (tokens.Meta n) = refl
-any_token (tokens.Hash n) = refl
-any_token (tokens.Sign n) = refl
-any_token tokens.End = refl
+abbrev NotOver : Outcome Bool → Type 0
+NotOver (Ok r) = Unit {0}
+NotOver (Err d) = d.why ≡ Refused
+
+refuses : (ts : List Piece) (as' : List ℕ) (b : Bool) (s : Names) → NotOver (inside_at ts as' b s)
+unfolding inside_at
+refuses [] [] b s = tt
+refuses (t ∷ ts) [] b s = tt
+refuses [] (a ∷ as') b s = refl
+refuses (t ∷ ts) (a ∷ as') b s = at (awaits a as' t) (λ next. refuses ts next (b || is_noinline t) s)
+  where
+    at : (o : Option (List ℕ)) → ((next : List ℕ) → NotOver (inside_at ts next (b || is_noinline t) s)) → NotOver (fed o (λ next. inside_at ts next (b || is_noinline t) s) (Err (record { at = t ∷ ts; why = Refused })))
+    at None ih = refl
+    at (Some next) ih = ih next
 
 -- no lexical fault stands in a group
 any : (t : Piece) (a : ℕ) (as' next : List ℕ) → awaits a as' t ≡ Some next → in_set (Any ∷ []) t ≡ true
-any (Is s) a as' next e = any_token s.token
+any (Is s) a as' next e = any_token [] s.token
 any (Bad b) a as' next e = absurd cc
+
+-- neither does the end
+not_awaited : (t : Token) (a : ℕ) (as' next : List ℕ) → token_awaits a as' t ≡ Some next → is_end t ≡ true → ⊥
+not_awaited (tokens.Int n) a as' next e h = cc
+not_awaited (tokens.Word n) a as' next e h = cc
+not_awaited (tokens.Label n) a as' next e h = cc
+not_awaited (tokens.Local n) a as' next e h = cc
+not_awaited (tokens.Global n) a as' next e h = cc
+not_awaited (tokens.Str n) a as' next e h = cc
+not_awaited (tokens.CStr n) a as' next e h = cc
+not_awaited (tokens.Meta n) a as' next e h = cc
+not_awaited (tokens.Hash n) a as' next e h = cc
+not_awaited (tokens.Sign n) a as' next e h = cc
+not_awaited tokens.End a as' next e h = cc
+
+inner : (t : Piece) (a : ℕ) (as' next : List ℕ) → awaits a as' t ≡ Some next → is_last t ≡ true → ⊥
+inner (Is s) a as' next e h = not_awaited s.token a as' next e h
+inner (Bad b) a as' next e h = cc
+
+no_last : (v : List Piece) (e : Piece) (x : List Piece) (as' : List ℕ) → Inside (v ++ e ∷ x) as' → is_last e ≡ true → ⊥
+no_last [] e x [] h last = h
+no_last [] e x (a ∷ as') h last = inner e a as' h.0 h.1 last
+no_last (q ∷ v) e x [] h last = h
+no_last (q ∷ v) e x (a ∷ as') h last = no_last v e x h.0 h.2 last
 
 law_inside : {w : Bool} (a : ℕ) → Law w (inside a) (begins_with (Any ∷ []))
 law_inside {w = w} a = record {
@@ -85,8 +112,16 @@ law_inside {w = w} a = record {
   whole = λ s u x s' rest r n. whole u rest (a ∷ []) false s r.0 ∙ ap (λ (p : Bool × Names). Ok (p.0, left p.1 rest)) (both (sees_noinline false u) x s s' r.1 r.2);
   goes = λ s u t v x s' rest r. goes u t v rest (a ∷ []) false s r.0;
   sample = λ e s. let h = closing (a ∷ []) in (h.0, sees_noinline false h.0, s, (h.1, refl, refl));
+  excess = λ l. excesses l (inside_at l.tokens (a ∷ []) false l.names) (refuses l.tokens (a ∷ []) false l.names);
+  starts = λ s u y r. absurd r;
+  over = λ s u t y rest r. absurd r;
+  closes = λ s u x s' v e k r eq last. absurd (no_last v e k (a ∷ []) (subst (λ q. Inside q (a ∷ [])) eq r.0) last);
 }
   where
+    excesses : (l : Left) (o : Outcome Bool) → NotOver o → Faulted (inside a) l o
+    excesses l (Ok r) h = tt
+    excesses l (Err d) h = rw h tt
+
     both : (x y : Bool) (s s' : Names) → y ≡ x → s ≡ s' → ◌≡◌ {A = Bool × Names} (x, s) (y, s')
     both x y s s' e f = cc
 

@@ -24,15 +24,15 @@ use Rattle.ir_grammar.specs.declared.kinds.Barred.TheVariants as barred
 use Rattle.ir_grammar.specs.declared.parts.Marks.{Marks}
 use Rattle.ir_grammar.specs.declared.which.Which.TheVariants as limits
 use Rattle.ir_grammar.specs.Names.{local, symbol, define, define_next}
-use Rattle.ir_grammar.specs.Sets.{Set, has, apart}
-use Rattle.ir_grammar.specs.Forms.{Form, Takes, ◌>>=◌}
-use Rattle.ir_grammar.specs.Tokens.{Limits, is_past, sign, kind, words_of, text, expect}
+use Rattle.ir_grammar.specs.Sets.{Set, apart}
+use Rattle.ir_grammar.specs.Forms.{Form, ◌>>=◌}
+use Rattle.ir_grammar.specs.Tokens.{Limits, is_past, sign, kind, words_of, text, expect, skip}
 use Rattle.ir_grammar.specs.Types.{type_set}
 use Rattle.ir_grammar.specs.Values.{gep_word}
 use Rattle.ir_grammar.specs.Attributes.{no_marks, attribute_set}
-use Rattle.ir_grammar.specs.Operations.{listing, items_and_notes, align_word, align_then_notes, note_then_notes, align_or_notes, align_and_notes, bin_words, bin_flag, bin, order_words, icmp_word, icmp, select_word, select, cast_words, cast_flag, cast, alloca_word, count_and_rest, alloca, load_word, load, gep_op_rest, gep_op, pair, phi_word, phi, other_words, other_op, store_word, store, next_item, more_items, tail_word, call_words, call_head, call_end, is_lifetime, callee_if, callee_of, callee, arguments, named_call, op, Line, result_of, called, keep_types, lifetime, types_so_far, unnamed_call, other_line_set, other_line, line, line_set, instr_at, instr}
-use Rattle.ir_grammar.proofs.FormLaws.{Shape, Law, law_choose}
-use Rattle.ir_grammar.proofs.Rules.{begins_with, goes_on_with, maybe, seq, or, again, done, does, placed, expects, takes, law_one_word, shaped}
+use Rattle.ir_grammar.specs.Operations.{listing, items_and_notes, align_word, align_then_notes, note_then_notes, align_or_notes, align_and_notes, bin_words, bin_flag, bin, order_words, icmp_word, samesign, may_samesign, icmp, select_word, select, cast_words, cast_flag, cast, alloca_word, count_and_rest, alloca, load_word, load, gep_op_rest, gep_op, pair, phi_word, phi, other_words, other_op, store_word, store, next_item, more_items, tail_word, call_words, call_head, call_end, is_lifetime, callee_if, callee_of, callee, arguments, named_call, op, Line, result_of, called, keep_types, lifetime, types_so_far, unnamed_call, other_line_set, other_line, line, line_set, instr_at, instr}
+use Rattle.ir_grammar.proofs.FormLaws.{Shape, Law, Fits, any_token, law_choose}
+use Rattle.ir_grammar.proofs.Rules.{begins_with, goes_on_with, maybe, seq, or, again, done, does, placed, expects, takes, law_one_word, shaped, with_any, begun_by_any}
 use Rattle.ir_grammar.proofs.LawsOfTokens.{is_sign, is_word, law_text, law_number, law_over, law_skip}
 use Rattle.ir_grammar.proofs.LawsOfTypes.{law_type_form, law_value_type}
 use Rattle.ir_grammar.proofs.LawsOfValues.{law_gep_flags, law_value, law_typed}
@@ -52,7 +52,7 @@ law_align_then_notes : {w : Bool} (l : Limits) → Law w (align_then_notes l) (g
 unfolding align_then_notes
 law_align_then_notes l = seq (is_word (codes "align") refl) (λ (u : Unit). seq (law_number l.length) (λ (n : ℕ). seq law_notes (λ (e : Unit). done (Some n)) refl) refl) refl
 
-law_note_then_notes : {w : Bool} → Law w note_then_notes (goes_on_with (kind kinds.Meta) (sign 44))
+pub law_note_then_notes : {w : Bool} → Law w note_then_notes (goes_on_with (kind kinds.Meta) (sign 44))
 unfolding note_then_notes
 law_note_then_notes = seq law_note (λ (e : Unit). law_notes) refl
 
@@ -69,17 +69,22 @@ law_align_and_notes l = shaped (or (seq (is_sign 44 refl) (λ (c : Unit). law_al
 
 -- ---- operations
 
+pub law_bin_flags : {w : Bool} → Law w (skip bin_flag (expect bin_flag)) (maybe bin_flag bin_flag)
+law_bin_flags = shaped (law_skip (expects bin_flag (tokens.Word (codes "nuw")) refl) refl refl refl) bin_flag bin_flag refl refl
+
 law_bin : {w : Bool} (l : Limits) → Law w (bin l) (goes_on_with (words_of bin_words) (sign 44))
 unfolding bin
 law_bin l =
-    let flags = law_skip (expects bin_flag (tokens.Word (codes "nuw")) refl) refl refl refl in
-    seq (law_one_word bin_words (codes "add") bins.Add refl) (λ (o : BinOp). seq flags (λ (f : Unit). seq (law_type_form l) (λ (t : IrType). seq (law_value l) (λ (a : Operand).
+    seq (law_one_word bin_words (codes "add") bins.Add refl) (λ (o : BinOp). seq law_bin_flags (λ (f : Unit). seq (law_type_form l) (λ (t : IrType). seq (law_value l) (λ (a : Operand).
     seq (is_sign 44 refl) (λ (c : Unit). seq (law_value l) (λ (b : Operand). seq law_notes (λ (n : Unit). done (ops.Bin o t a b)) refl) refl) refl) refl) refl) refl) refl
+
+pub law_may_samesign : {w : Bool} → Law w may_samesign (maybe samesign samesign)
+law_may_samesign = or (is_word (codes "samesign") refl) (done tt) refl refl
 
 law_icmp : {w : Bool} (l : Limits) → Law w (icmp l) (goes_on_with icmp_word (sign 44))
 unfolding icmp
 law_icmp l =
-    seq (is_word (codes "icmp") refl) (λ (u : Unit). seq (or (is_word (codes "samesign") refl) (done tt) refl refl) (λ (f : Unit). seq (law_one_word order_words (codes "eq") orders.Eq refl) (λ (o : Cmp).
+    seq (is_word (codes "icmp") refl) (λ (u : Unit). seq law_may_samesign (λ (f : Unit). seq (law_one_word order_words (codes "eq") orders.Eq refl) (λ (o : Cmp).
     seq (law_type_form l) (λ (t : IrType). seq (law_value l) (λ (a : Operand). seq (is_sign 44 refl) (λ (c : Unit). seq (law_value l) (λ (b : Operand). seq law_notes (λ (n : Unit). done (ops.Icmp o t a b)) refl) refl) refl) refl) refl) refl) refl) refl
 
 law_select : {w : Bool} (l : Limits) → Law w (select l) (goes_on_with select_word (sign 44))
@@ -88,11 +93,13 @@ law_select l =
     seq (is_word (codes "select") refl) (λ (u : Unit). seq (law_typed l) (λ (a : TypedOperand). seq (is_sign 44 refl) (λ (c : Unit). seq (law_typed l) (λ (b : TypedOperand).
     seq (is_sign 44 refl) (λ (d : Unit). seq (law_typed l) (λ (e : TypedOperand). seq law_notes (λ (n : Unit). done (ops.Select a b e)) refl) refl) refl) refl) refl) refl) refl
 
+pub law_cast_flags : {w : Bool} → Law w (skip cast_flag (expect cast_flag)) (maybe cast_flag cast_flag)
+law_cast_flags = shaped (law_skip (expects cast_flag (tokens.Word (codes "nuw")) refl) refl refl refl) cast_flag cast_flag refl refl
+
 law_cast : {w : Bool} (l : Limits) → Law w (cast l) (goes_on_with (words_of cast_words) (sign 44))
 unfolding cast
 law_cast l =
-    let flags = law_skip (expects cast_flag (tokens.Word (codes "nuw")) refl) refl refl refl in
-    seq (law_one_word cast_words (codes "zext") casts.Zext refl) (λ (o : CastOp). seq flags (λ (f : Unit). seq (law_typed l) (λ (a : TypedOperand). seq (is_word (codes "to") refl) (λ (u : Unit).
+    seq (law_one_word cast_words (codes "zext") casts.Zext refl) (λ (o : CastOp). seq law_cast_flags (λ (f : Unit). seq (law_typed l) (λ (a : TypedOperand). seq (is_word (codes "to") refl) (λ (u : Unit).
     seq (law_type_form l) (λ (t : IrType). seq law_notes (λ (n : Unit). done (ops.Cast o a t)) refl) refl) refl) refl) refl) refl
 
 law_count_and_rest : {w : Bool} (l : Limits) → Law w (count_and_rest l) (goes_on_with (type_set true) (sign 44))
@@ -123,7 +130,7 @@ law_gep_op : {w : Bool} (l : Limits) → Law w (gep_op l) (goes_on_with gep_word
 unfolding gep_op
 law_gep_op l = seq (is_word (codes "getelementptr") refl) (λ (u : Unit). seq law_gep_flags (λ (f : Unit). law_gep_op_rest l) refl) refl
 
-law_local_name : {w : Bool} → Law w (text kinds.Local) (begins_with (kind kinds.Local))
+pub law_local_name : {w : Bool} → Law w (text kinds.Local) (begins_with (kind kinds.Local))
 law_local_name = law_text kinds.Local (tokens.Local []) refl
 
 pub law_pair : {w : Bool} (l : Limits) → Law w (pair l) (begins_with (sign 91))
@@ -159,11 +166,11 @@ past_not_free : (w b : Bool) → (w ≡ true → b ≡ false) → b ≡ true →
 past_not_free true b h e = absurd (cc (h refl))
 past_not_free false b h e = refl
 
-law_next_item : {A : Type 0} {w : Bool} (l : Limits) {f : Form A} {z : Shape} → AnyParams w l → Law w f z → (xs : List A) → Law w (next_item l f xs) z
+law_next_item : {A : Type 0} {w : Bool} (l : Limits) {f : Form A} {z : Shape} → AnyParams w l → Law w f z → (xs : List A) → Law w (next_item l f xs) (with_any z)
 law_next_item {w = w} l {f = f} {z = z} h law xs =
-    law_choose (is_past l.params (length xs + 1)) _ f z
-    (λ e. law_over limits.Params z (past_not_free w (is_past l.params (length xs + 1)) (λ free. h free (length xs + 1)) e))
-    (λ e. law)
+    law_choose (is_past l.params (length xs + 1)) _ f (with_any z)
+    (λ e. law_over limits.Params (with_any z) (past_not_free w (is_past l.params (length xs + 1)) (λ free. h free (length xs + 1)) e) (λ t. any_token z.first t))
+    (λ e. begun_by_any law)
 
 pub law_more_items : {A : Type 0} {w : Bool} (l : Limits) {f : Form A} {z g : Set} → AnyParams w l → Law w f (goes_on_with z g) → apart g [] ≡ true → apart g (sign 44) ≡ true → apart (g ++ []) (sign 44) ≡ true → apart (g ++ []) [] ≡ true → (xs : List A) → Law w (more_items l f xs) (maybe (sign 44) ((g ++ []) ++ sign 44))
 law_more_items {A = A} l h law e1 e2 e3 e4 xs =
@@ -181,7 +188,7 @@ law_arguments l h =
 abbrev values_greedy : Set
 values_greedy = attribute_greedy ++ attribute_set barred.Values
 
-law_call_head : {w : Bool} → Law w call_head (goes_on_with call_words values_greedy)
+pub law_call_head : {w : Bool} → Law w call_head (goes_on_with call_words values_greedy)
 unfolding call_head
 law_call_head =
     shaped (seq (or (seq (expects tail_word (tokens.Word (codes "tail")) refl) (λ (t : Unit). is_word (codes "call") refl) refl) (is_word (codes "call") refl) refl refl) (λ (u : Unit).
@@ -190,30 +197,30 @@ law_call_head =
 abbrev pub call_greedy : Set
 call_greedy = sign 44 ++ attribute_greedy ++ attribute_set barred.Code
 
-law_call_end : {w : Bool} → Law w call_end (maybe (sign 44 ++ attribute_set barred.Code) call_greedy)
+pub law_call_end : {w : Bool} → Law w call_end (maybe (sign 44 ++ attribute_set barred.Code) call_greedy)
 unfolding call_end
 law_call_end = shaped (seq (law_attribute_list barred.Code no_marks) (λ (m : Marks). law_notes) refl) (sign 44 ++ attribute_set barred.Code) call_greedy refl refl
 
-callee_taken : (b : Bool) (n a : List ℕ) → callee_if b n ≡ Takes a → b ≡ false
-callee_taken true n a e = absurd cc
-callee_taken false n a e = refl
-
-law_callee : {w : Bool} → Law w callee (begins_with (kind kinds.Global))
+pub law_callee : {w : Bool} → Law w callee (begins_with (kind kinds.Global))
 unfolding callee
-law_callee = seq (takes callee_of (kind kinds.Global) starts (tokens.Global []) [] refl) (λ (n : List ℕ). does (symbol n)) refl
+law_callee = seq (takes callee_of (kind kinds.Global) fit (tokens.Global []) [] refl) (λ (n : List ℕ). does (symbol n)) refl
   where
-    starts : (t : Token) (a : List ℕ) → callee_of t ≡ Takes a → has (kind kinds.Global) t ≡ true
-    starts (tokens.Int n) a e = absurd cc
-    starts (tokens.Word n) a e = absurd cc
-    starts (tokens.Label n) a e = absurd cc
-    starts (tokens.Local n) a e = absurd cc
-    starts (tokens.Global n) a e = refl
-    starts (tokens.Str n) a e = absurd cc
-    starts (tokens.CStr n) a e = absurd cc
-    starts (tokens.Meta n) a e = absurd cc
-    starts (tokens.Hash n) a e = absurd cc
-    starts (tokens.Sign n) a e = absurd cc
-    starts tokens.End a e = absurd cc
+    global_fits : (n : List ℕ) (b : Bool) → Fits (kind kinds.Global) (tokens.Global n) (callee_if b n)
+    global_fits n true = tt
+    global_fits n false = refl
+
+    fit : (t : Token) → Fits (kind kinds.Global) t (callee_of t)
+    fit (tokens.Global n) = global_fits n (is_lifetime n)
+    fit (tokens.Int n) = tt
+    fit (tokens.Word n) = tt
+    fit (tokens.Label n) = tt
+    fit (tokens.Local n) = tt
+    fit (tokens.Str n) = tt
+    fit (tokens.CStr n) = tt
+    fit (tokens.Meta n) = tt
+    fit (tokens.Hash n) = tt
+    fit (tokens.Sign n) = tt
+    fit tokens.End = tt
 
 law_named_call : {w : Bool} (l : Limits) → AnyParams w l → Law w (named_call l) (goes_on_with call_words call_greedy)
 unfolding named_call
@@ -233,14 +240,17 @@ unfolding called
 law_called l t n h =
     seq (does (symbol n)) (λ (f : SymId). seq (does (result_of t)) (λ (r : Option LocalId). seq (law_arguments l h) (λ (as' : List TypedOperand). done (Some (r, ops.Call t f as'))) refl) refl) refl
 
-law_lifetime : {w : Bool} (k : ℕ) → Law w (lifetime k) (begins_with (sign 40))
+pub law_lifetime : {w : Bool} (k : ℕ) → Law w (lifetime k) (begins_with (sign 40))
 unfolding lifetime
 law_lifetime k = seq (law_group 40 41 refl) (λ (g : Bool). seq (does (keep_types k)) (λ (u : Unit {0}). done None) refl) refl
+
+pub law_global_name : {w : Bool} → Law w (text kinds.Global) (begins_with (kind kinds.Global))
+law_global_name = law_text kinds.Global (tokens.Global []) refl
 
 law_unnamed_call : {w : Bool} (l : Limits) → AnyParams w l → Law w (unnamed_call l) (goes_on_with call_words call_greedy)
 unfolding unnamed_call
 law_unnamed_call l h =
-    seq law_call_head (λ (u : Unit). seq (does types_so_far) (λ (k : ℕ). seq (law_type_form l) (λ (t : IrType). seq (law_text kinds.Global (tokens.Global []) refl) (λ (n : List ℕ).
+    seq law_call_head (λ (u : Unit). seq (does types_so_far) (λ (k : ℕ). seq (law_type_form l) (λ (t : IrType). seq law_global_name (λ (n : List ℕ).
     seq (law_choose (is_lifetime n) _ _ (begins_with (sign 40)) (λ e. law_lifetime k) (λ e. law_called l t n h)) (λ (r : Line). seq law_call_end (λ (e : Unit). done r) refl) refl) refl) refl) refl) refl
 
 -- ---- instructions

@@ -14,13 +14,15 @@ use Rattle.ir_core.specs.declared.op.Operand.TheVariants as operands
 use Rattle.ir_grammar.specs.declared.kinds.Kind.TheVariants as kinds
 use Rattle.ir_grammar.specs.declared.which.Which.TheVariants as limits
 use Rattle.ir_grammar.specs.Names.{symbol, local}
-use Rattle.ir_grammar.specs.Sets.{Set, has}
+use Rattle.ir_grammar.specs.Pieces.{Is}
+use Rattle.ir_grammar.specs.Sets.{Set}
 use Rattle.ir_grammar.specs.Forms.{Form, token, Verdict, Takes, Refuses, Over}
-use Rattle.ir_grammar.specs.Tokens.{Limits, sign, word, kind, words_of, one_word}
-use Rattle.ir_grammar.specs.Types.{type_set}
+use Rattle.ir_grammar.specs.Tokens.{Limits, sign, word, kind, look, words_of, one_word}
+use Rattle.ir_grammar.specs.Types.{brackets, type_set}
 use Rattle.ir_grammar.specs.Values.{const_words, gep_word, gep_flag, gep_flags, global, index, gep_rest, gep, address, integer, const_set, const_at, constant, local_value, value_set, value, typed, zero_init, bytes, last_const_of, typed_init, array_init, struct_init, init_at, init}
-use Rattle.ir_grammar.proofs.FormLaws.{Law}
-use Rattle.ir_grammar.proofs.Rules.{begins_with, maybe, seq, or, done, does, expects, takes, looked, law_one_word, shaped, collect}
+use Rattle.ir_grammar.proofs.Apart.{in_left, in_right}
+use Rattle.ir_grammar.proofs.FormLaws.{Law, Fits}
+use Rattle.ir_grammar.proofs.Rules.{spot, begins_with, maybe, seq, or, done, does, expects, takes, looked, law_one_word, shaped, collect}
 use Rattle.ir_grammar.proofs.LawsOfTokens.{is_sign, is_word, law_text, law_int, law_skip, law_behind_comma, law_listed}
 use Rattle.ir_grammar.proofs.LawsOfTypes.{law_type, law_type_form}
 
@@ -76,36 +78,43 @@ law_typed l = seq (law_type_form l) (λ (t : IrType). seq (law_value l) (λ (v :
 
 -- ---- initialisers
 
-abbrev over : Verdict Const
-over = Over limits.Nesting
+-- the tokens that are a word of the table, or the bracket of one more level
+abbrev last_set : Set
+last_set = words_of const_words ++ brackets
 
-abbrev refuse : Verdict Const
-refuse = Refuses
-
-not_open : (b : Bool) (a : Const) → (if b then over else refuse) ≡ Takes a → ⊥
-not_open true a e = cc
-not_open false a e = cc
-
-law_last : {w : Bool} → Law w (token last_const_of) (begins_with (words_of const_words))
-law_last = takes last_const_of (words_of const_words) starts (tokens.Word (codes "true")) (consts.Bool true) refl
+bracket_fits : (c : ℕ) → Fits last_set (tokens.Sign c) (last_const_of (tokens.Sign c))
+bracket_fits c = at (nat_eq c 91) (nat_eq c 123) refl refl
   where
-    starts : (t : Token) (a : Const) → last_const_of t ≡ Takes a → has (words_of const_words) t ≡ true
-    starts (tokens.Int n) a e = absurd cc
-    starts (tokens.Word n) a e = looked const_words n a e
-    starts (tokens.Label n) a e = absurd cc
-    starts (tokens.Local n) a e = absurd cc
-    starts (tokens.Global n) a e = absurd cc
-    starts (tokens.Str n) a e = absurd cc
-    starts (tokens.CStr n) a e = absurd cc
-    starts (tokens.Meta n) a e = absurd cc
-    starts (tokens.Hash n) a e = absurd cc
-    starts (tokens.Sign n) a e = absurd (not_open (nat_eq n 91 || nat_eq n 123) a e)
-    starts tokens.End a e = absurd cc
+    at : (a b : Bool) → nat_eq c 91 ≡ a → nat_eq c 123 ≡ b → Fits {A = Const} last_set (tokens.Sign c) (if a || b then Over limits.Nesting else Refuses)
+    at true b e f = in_right (words_of const_words) brackets (Is (spot (tokens.Sign c))) (rw e refl)
+    at false true e f = in_right (words_of const_words) brackets (Is (spot (tokens.Sign c))) (rw (e, f) refl)
+    at false false e f = tt
 
-law_zero : {w : Bool} → Law w zero_init (begins_with (word (codes "zeroinitializer")))
+word_fits : (n : List ℕ) (o : Verdict Const) → Fits (words_of const_words) (tokens.Word n) o → Fits last_set (tokens.Word n) o
+word_fits n (Takes a) h = in_left (words_of const_words) brackets (Is (spot (tokens.Word n))) h
+word_fits n Refuses h = tt
+word_fits n (Over w) h = in_left (words_of const_words) brackets (Is (spot (tokens.Word n))) h
+
+last_fits : (t : Token) → Fits last_set t (last_const_of t)
+last_fits (tokens.Word n) = word_fits n (look const_words n) (looked const_words n)
+last_fits (tokens.Sign n) = bracket_fits n
+last_fits (tokens.Int n) = tt
+last_fits (tokens.Label n) = tt
+last_fits (tokens.Local n) = tt
+last_fits (tokens.Global n) = tt
+last_fits (tokens.Str n) = tt
+last_fits (tokens.CStr n) = tt
+last_fits (tokens.Meta n) = tt
+last_fits (tokens.Hash n) = tt
+last_fits tokens.End = tt
+
+law_last : {w : Bool} → Law w (token last_const_of) (begins_with last_set)
+law_last = takes last_const_of last_set last_fits (tokens.Word (codes "true")) (consts.Bool true) refl
+
+pub law_zero : {w : Bool} → Law w zero_init (begins_with (word (codes "zeroinitializer")))
 law_zero = seq (is_word (codes "zeroinitializer") refl) (λ (u : Unit). done consts.Zero) refl
 
-law_bytes : {w : Bool} → Law w bytes (begins_with (kind kinds.CStr))
+pub law_bytes : {w : Bool} → Law w bytes (begins_with (kind kinds.CStr))
 law_bytes = seq (law_text kinds.CStr (tokens.CStr []) refl) (λ (b : List ℕ). done (consts.Bytes b)) refl
 
 abbrev pub init_set : Set
@@ -114,10 +123,10 @@ init_set = kind kinds.Global ++ gep_word ++ kind kinds.Int ++ word (codes "zeroi
 pub law_typed_init : {w : Bool} (f : Form Const) (most : Option ℕ) (n : ℕ) → Law w f (begins_with init_set) → Law w (typed_init f most n) (begins_with (type_set true))
 law_typed_init f most n h = seq (law_type true most n) (λ (t : IrType). seq h (λ (c : Const). done (record { ty = t; value = c })) refl) refl
 
-law_array_init : {w : Bool} (f : Form TypedConst) → Law w f (begins_with (type_set true)) → Law w (array_init f) (begins_with (sign 91))
+pub law_array_init : {w : Bool} (f : Form TypedConst) → Law w f (begins_with (type_set true)) → Law w (array_init f) (begins_with (sign 91))
 law_array_init f h = seq (is_sign 91 refl) (λ (o : Unit). seq (law_listed h refl) (λ (cs : List TypedConst). seq (is_sign 93 refl) (λ (c : Unit). done (consts.Array cs)) refl) refl) refl
 
-law_struct_init : {w : Bool} (f : Form TypedConst) → Law w f (begins_with (type_set true)) → Law w (struct_init f) (begins_with (sign 123))
+pub law_struct_init : {w : Bool} (f : Form TypedConst) → Law w f (begins_with (type_set true)) → Law w (struct_init f) (begins_with (sign 123))
 law_struct_init f h = seq (is_sign 123 refl) (λ (o : Unit). seq (law_listed h refl) (λ (cs : List TypedConst). seq (is_sign 125 refl) (λ (c : Unit). done (consts.Struct cs)) refl) refl) refl
 
 pub law_init_at : {w : Bool} (most : Option ℕ) (n : ℕ) → Law w (init_at most n) (begins_with init_set)

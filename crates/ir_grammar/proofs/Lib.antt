@@ -14,3 +14,10 @@ pub mod LawsOfEntities
 pub mod Exact
 pub mod OneModule
 pub mod Rounds
+pub mod Agreement
+pub mod AgreementOfValues
+pub mod AgreementOfOperations
+pub mod AgreementOfBodies
+pub mod AgreementOfEntities
+pub mod Ends
+pub mod Faults

@@ -6,12 +6,13 @@ use Rattle.std.specs.Str.{bytes_eq}
 use Rattle.ir_lexer.specs.declared.table.Token.{Token}
 use Rattle.ir_lexer.specs.declared.table.Token.TheVariants as tokens
 use Rattle.ir_lexer.specs.declared.table.Spot.{Spot}
-use Rattle.ir_grammar.specs.Pieces.{Piece}
-use Rattle.ir_grammar.specs.Sets.{Set, has, apart}
+use Rattle.ir_grammar.specs.Pieces.{Piece, Is}
+use Rattle.ir_grammar.specs.Sets.{Set, Any, has, apart}
 use Rattle.ir_grammar.specs.Names.{Names}
-use Rattle.ir_grammar.specs.Forms.{Form, act, ret, token, Verdict, Takes, ◌>>=◌, either, rounds, located}
+use Rattle.ir_grammar.specs.Forms.{Form, act, ret, token, Verdict, Takes, Refuses, Over, ◌>>=◌, either, rounds, located}
 use Rattle.ir_grammar.specs.Tokens.{allows, expect, look, words_of, word_of, one_word, many}
-use Rattle.ir_grammar.proofs.FormLaws.{Shape, Heads, Law, law_act, law_token, law_then, law_either, law_located, after_shape, or_shape}
+use Rattle.ir_grammar.proofs.FormLaws.{Shape, Heads, Starts, Law, Fits, token_shape, start_right, law_act, law_token, law_then, law_either, law_located, after_shape, or_shape}
+use Rattle.ir_grammar.proofs.Apart.{in_right}
 use Rattle.ir_grammar.proofs.LawsOfRounds.{law_rounds, rounds_shape, rounds_greedy}
 use Rattle.ir_grammar.proofs.Within.{within, within_in, within_head}
 
@@ -49,40 +50,55 @@ does h = law_act h
 pub placed : {A : Type 0} {w : Bool} {f : Form A} {z : Shape} → Law w f z → z.empty ≡ false → Law w (located f) z
 placed law some = law_located _ _ law some
 
-test_takes : (b : Bool) (a : Unit) → allows b ≡ Takes a → b ≡ true
-test_takes true a e = refl
-test_takes false a e = absurd cc
+or_right : (a b : Bool) → b ≡ true → (a || b) ≡ true
+or_right true b e = refl
+or_right false b e = e
 
-pub expects : {w : Bool} (z : Set) (t : Token) → has z t ≡ true → Law w (expect z) (begins_with z)
-expects z t e = law_token _ z (λ q a h. test_takes (has z q) a h) (λ free. (spot t, tt, rw e refl))
+fits_allows : (z : Set) (t : Token) → Fits z t (allows (has z t))
+fits_allows z t = at (has z t) refl
+  where
+    at : (b : Bool) → has z t ≡ b → Fits z t (allows b)
+    at true e = e
+    at false e = tt
 
-pub takes : {A : Type 0} {w : Bool} (v : Token → Verdict A) (z : Set) → ((t : Token) (a : A) → v t ≡ Takes a → has z t ≡ true) → (t : Token) (a : A) → v t ≡ Takes a → Law w (token v) (begins_with z)
-takes v z starts t a e = law_token v z starts (λ free. (spot t, a, e))
+pub expects : {w : Bool} (z : Set) (t : Token) → has z t ≡ true → Law w (expect z) (token_shape z)
+expects z t e = law_token _ z (λ q. fits_allows z q) (λ free. (spot t, tt, rw e refl))
+
+pub takes : {A : Type 0} {w : Bool} (v : Token → Verdict A) (z : Set) → ((t : Token) → Fits z t (v t)) → (t : Token) (a : A) → v t ≡ Takes a → Law w (token v) (token_shape z)
+takes v z fit t a e = law_token v z fit (λ free. (spot t, a, e))
+
+looked_on : {A : Type 0} (r : List ℕ × A) (table : List (List ℕ × A)) (w : List ℕ) → Fits (words_of table) (tokens.Word w) (look table w) → Fits (words_of (r ∷ table)) (tokens.Word w) (look (r ∷ table) w)
+looked_on {A = A} r table w h = at (bytes_eq w r.0) refl
+  where
+    behind : (o : Verdict A) → Fits (words_of table) (tokens.Word w) o → Fits (words_of (r ∷ table)) (tokens.Word w) o
+    behind (Takes a) h = or_right (bytes_eq w r.0) (has (words_of table) (tokens.Word w)) h
+    behind Refuses h = tt
+    behind (Over x) h = or_right (bytes_eq w r.0) (has (words_of table) (tokens.Word w)) h
+
+    at : (b : Bool) → bytes_eq w r.0 ≡ b → Fits {A = A} (words_of (r ∷ table)) (tokens.Word w) (if b then Takes r.1 else look table w)
+    at true e = rw e refl
+    at false e = behind (look table w) h
 
 -- a word that a table has
-pub looked : {A : Type 0} (table : List (List ℕ × A)) (w : List ℕ) (a : A) → look table w ≡ Takes a → has (words_of table) (tokens.Word w) ≡ true
-looked [] w a e = absurd cc
-looked {A = A} (r ∷ table) w a e = at (bytes_eq w r.0) e (looked table w a)
-  where
-    at : (b : Bool) → (if b then Takes r.1 else look table w) ≡ Takes a → (look table w ≡ Takes a → has (words_of table) (tokens.Word w) ≡ true) → (b || has (words_of table) (tokens.Word w)) ≡ true
-    at true e h = refl
-    at false e h = h e
+pub looked : {A : Type 0} (table : List (List ℕ × A)) (w : List ℕ) → Fits (words_of table) (tokens.Word w) (look table w)
+looked [] w = tt
+looked {A = A} (r ∷ table) w = looked_on r table w (looked table w)
 
-pub law_one_word : {A : Type 0} {free : Bool} (table : List (List ℕ × A)) (w : List ℕ) (a : A) → look table w ≡ Takes a → Law free (one_word table) (begins_with (words_of table))
-law_one_word {A = A} table w a e = takes (word_of table) (words_of table) starts (tokens.Word w) a e
+pub law_one_word : {A : Type 0} {free : Bool} (table : List (List ℕ × A)) (w : List ℕ) (a : A) → look table w ≡ Takes a → Law free (one_word table) (token_shape (words_of table))
+law_one_word {A = A} table w a e = takes (word_of table) (words_of table) fit (tokens.Word w) a e
   where
-    starts : (t : Token) (a : A) → word_of table t ≡ Takes a → has (words_of table) t ≡ true
-    starts (tokens.Word n) a e = looked table n a e
-    starts (tokens.Int n) a e = absurd cc
-    starts (tokens.Label n) a e = absurd cc
-    starts (tokens.Local n) a e = absurd cc
-    starts (tokens.Global n) a e = absurd cc
-    starts (tokens.Str n) a e = absurd cc
-    starts (tokens.CStr n) a e = absurd cc
-    starts (tokens.Meta n) a e = absurd cc
-    starts (tokens.Hash n) a e = absurd cc
-    starts (tokens.Sign n) a e = absurd cc
-    starts tokens.End a e = absurd cc
+    fit : (t : Token) → Fits (words_of table) t (word_of table t)
+    fit (tokens.Word n) = looked table n
+    fit (tokens.Int n) = tt
+    fit (tokens.Label n) = tt
+    fit (tokens.Local n) = tt
+    fit (tokens.Global n) = tt
+    fit (tokens.Str n) = tt
+    fit (tokens.CStr n) = tt
+    fit (tokens.Meta n) = tt
+    fit (tokens.Hash n) = tt
+    fit (tokens.Sign n) = tt
+    fit tokens.End = tt
 
 -- the same law with other sets, which have all that the sets have
 pub shaped : {A : Type 0} {w : Bool} {f : Form A} {z : Shape} → Law w f z → (first greedy : Set) → within z.first first ≡ true → within z.greedy greedy ≡ true → Law w f (record { first = first; greedy = greedy; empty = z.empty })
@@ -92,8 +108,16 @@ shaped {z = z} law first greedy e g = record {
   whole = λ s u a s' rest r h. law.whole s u a s' rest r (within_head z.greedy greedy rest g h);
   goes = law.goes;
   sample = law.sample;
+  excess = law.excess;
+  starts = λ s u y r. start u (law.starts s u y r);
+  over = law.over;
+  closes = λ s u a s' v k x r eq last. let c = law.closes s u a s' v k x r eq last in (λ t. within_in z.greedy greedy (Is t) g (c.0 t), c.1);
 }
   where
+    start : (u : List Piece) → Starts z.first u → Starts first u
+    start [] h = h
+    start (t ∷ u) h = within_in z.first first t e h
+
     at : (u : List Piece) → Heads z u → Heads (record { first = first; greedy = greedy; empty = z.empty }) u
     at [] h = h
     at (t ∷ u) h = within_in z.first first t e h
@@ -106,11 +130,36 @@ going_on {z = z} law greedy g = record {
   whole = λ s u a s' rest r h. law.whole s u a s' rest r (within_head z.greedy greedy rest g h);
   goes = law.goes;
   sample = law.sample;
+  excess = law.excess;
+  starts = law.starts;
+  over = law.over;
+  closes = λ s u a s' v k x r eq last. let c = law.closes s u a s' v k x r eq last in (λ t. within_in z.greedy greedy (Is t) g (c.0 t), c.1);
 }
   where
     at : (u : List Piece) → Heads z u → Heads (record { first = z.first; greedy = greedy; empty = z.empty }) u
     at [] h = h
     at (t ∷ u) h = h
+
+abbrev pub with_any : Shape → Shape
+with_any z = record { first = Any ∷ z.first; greedy = z.greedy; empty = z.empty }
+
+-- the same law where any token counts as one of the first
+pub begun_by_any : {A : Type 0} {w : Bool} {f : Form A} {z : Shape} → Law w f z → Law w f (with_any z)
+begun_by_any {z = z} law = record {
+  traced = law.traced;
+  heads = λ s u a s' r. at u (law.heads s u a s' r);
+  whole = law.whole;
+  goes = law.goes;
+  sample = law.sample;
+  excess = law.excess;
+  starts = λ s u y r. start_right (Any ∷ []) z.first u (law.starts s u y r);
+  over = law.over;
+  closes = law.closes;
+}
+  where
+    at : (u : List Piece) → Heads z u → Heads (with_any z) u
+    at [] h = h
+    at (t ∷ u) h = in_right (Any ∷ []) z.first t h
 
 -- what a form gives any number of times
 pub collect : {A : Type 0} {w : Bool} {f : Form A} {a g : Set} → Law w f (goes_on_with a g) → apart a [] ≡ true → apart g [] ≡ true → apart g a ≡ true → (xs : List A) → Law w (many a f xs) (maybe a (g ++ a))

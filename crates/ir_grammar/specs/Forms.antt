@@ -1,5 +1,6 @@
 -- Forms of a grammar. A form is a relation (which lists of tokens it has, each with its value, and what
--- becomes of the names), and beside it the reading of it from left to right with one token in view.
+-- becomes of the names), beside it which lists of tokens exceed a limit at their last token, and the reading of
+-- both from left to right with one token in view.
 use Rattle.std.specs.Prelude.{◌≡◌, ◌⊎◌, ℕ, zero, suc, Bool, true, false, List, [], ◌∷◌, ◌++◌, length, Result, Ok, Err, if◌then◌else◌}
 use Rattle.oi_base.specs.declared.ids.Place.{Place}
 use Rattle.ir_lexer.specs.declared.table.Token.{Token}
@@ -28,6 +29,8 @@ Outcome A = Result (A × Left) Fault
 
 pub record Form (A : Type 0) : Type 1 where
   pub reads : Names → List Piece → A → Names → Type 0
+  -- the last of these tokens exceeds this limit, behind the others
+  pub exceeds : Names → List Piece → Which → Type 0
   pub parse : Left → Outcome A
 
 abbrev pub and_then : {A B : Type 0} → Outcome A → (A → Left → Outcome B) → Outcome B
@@ -39,6 +42,7 @@ and_then (Err e) f = Err e
 abbrev pub act : {A : Type 0} → (Names → A × Names) → Form A
 act h = record {
   reads = λ s u a t. (u ≡ []) × (h s ≡ (a, t));
+  exceeds = λ s u w. ⊥;
   parse = λ l. Ok ((h l.names).0, record { names = (h l.names).1; tokens = l.tokens });
 }
 
@@ -65,6 +69,7 @@ parse_token v s (Bad e ∷ ts) = Err (record { at = Bad e ∷ ts; why = Refused 
 abbrev pub token : {A : Type 0} → (Token → Verdict A) → Form A
 token v = record {
   reads = λ s u a s'. (t : Spot) × (u ≡ Is t ∷ []) × (v t.token ≡ Takes a) × (s ≡ s');
+  exceeds = λ s u w. (t : Spot) × (u ≡ Is t ∷ []) × (v t.token ≡ Over w);
   parse = λ l. parse_token v l.names l.tokens;
 }
 
@@ -74,6 +79,7 @@ infixl 10 ◌>>=◌
 abbrev pub ◌>>=◌ : {A B : Type 0} → Form A → (A → Form B) → Form B
 f >>= g = record {
   reads = λ s u b s'. (a : _) × (s1 : Names) × (u1 u2 : List Piece) × (u ≡ u1 ++ u2) × f.reads s u1 a s1 × (g a).reads s1 u2 b s';
+  exceeds = λ s u w. f.exceeds s u w ⊎ ((a : _) × (s1 : Names) × (u1 u2 : List Piece) × (u ≡ u1 ++ u2) × f.reads s u1 a s1 × (g a).exceeds s1 u2 w);
   parse = λ l. and_then (f.parse l) (λ a m. (g a).parse m);
 }
 
@@ -82,6 +88,7 @@ f >>= g = record {
 abbrev pub either : {A : Type 0} → Set → Form A → Form A → Form A
 either z f g = record {
   reads = λ s u a s'. f.reads s u a s' ⊎ g.reads s u a s';
+  exceeds = λ s u w. f.exceeds s u w ⊎ g.exceeds s u w;
   parse = λ l. if head_in z l.tokens then f.parse l else g.parse l;
 }
 
@@ -96,6 +103,11 @@ abbrev pub Rounds : {X Y : Type 0} → (X → Form X) → (X → Form Y) → ℕ
 Rounds go stop zero x s u y s' = (stop x).reads s u y s'
 Rounds go stop (suc n) x s u y s' = (x1 : _) × (s1 : Names) × (u1 u2 : List Piece) × (u ≡ u1 ++ u2) × (go x).reads s u1 x1 s1 × Rounds go stop n x1 s1 u2 y s'
 
+-- behind so many rounds the next one or the end exceeds a limit
+abbrev pub RoundsExceed : {X Y : Type 0} → (X → Form X) → (X → Form Y) → ℕ → X → Names → List Piece → Which → Type 0
+RoundsExceed go stop zero x s u w = (go x).exceeds s u w ⊎ (stop x).exceeds s u w
+RoundsExceed go stop (suc n) x s u w = (x1 : _) × (s1 : Names) × (u1 u2 : List Piece) × (u ≡ u1 ++ u2) × (go x).reads s u1 x1 s1 × RoundsExceed go stop n x1 s1 u2 w
+
 -- with at most so many rounds
 unfoldable pub rounds_at : {X Y : Type 0} → (X → Set) → (X → Form X) → (X → Form Y) → ℕ → X → Left → Outcome Y
 rounds_at z go stop zero x l = (stop x).parse l
@@ -104,6 +116,7 @@ rounds_at z go stop (suc n) x l = if head_in (z x) l.tokens then and_then ((go x
 abbrev pub rounds : {X Y : Type 0} → (X → Set) → (X → Form X) → (X → Form Y) → X → Form Y
 rounds z go stop x = record {
   reads = λ s u y s'. (n : ℕ) × Rounds go stop n x s u y s';
+  exceeds = λ s u w. (n : ℕ) × RoundsExceed go stop n x s u w;
   parse = λ l. rounds_at z go stop (length l.tokens) x l;
 }
 
@@ -116,5 +129,6 @@ place_of (t ∷ ts) = piece_place t
 abbrev pub located : {A : Type 0} → Form A → Form (Place × A)
 located f = record {
   reads = λ s u p s'. (p.0 ≡ place_of u) × f.reads s u p.1 s';
+  exceeds = f.exceeds;
   parse = λ l. and_then (f.parse l) (λ a m. Ok ((place_of l.tokens, a), m));
 }

@@ -59,6 +59,7 @@ inside_at (t ∷ ts) (a ∷ as') b s = fed (awaits a as' t) (λ next. inside_at 
 abbrev pub inside : ℕ → Form Bool
 inside a = record {
   reads = λ s u x s'. Inside u (a ∷ []) × (x ≡ sees_noinline false u) × (s ≡ s');
+  exceeds = λ s u w. ⊥;
   parse = λ l. inside_at l.tokens (a ∷ []) false l.names;
 }
 

@@ -1,5 +1,5 @@
 -- A text as its tokens with their places, the last being its end or its first lexical fault.
-use Rattle.std.specs.Prelude.{ℕ, zero, suc, ◌+◌, List, [], ◌∷◌, length, Result, Ok, Err, if◌then◌else◌}
+use Rattle.std.specs.Prelude.{ℕ, zero, suc, ◌+◌, Bool, true, List, [], ◌∷◌, length, Result, Ok, Err, if◌then◌else◌}
 use Rattle.oi_base.specs.declared.ids.Place.{Place}
 use Rattle.ir_lexer.specs.declared.fault.LexFault.{LexFault}
 use Rattle.ir_lexer.specs.declared.fault.LexFault.TheVariants as lexical
@@ -21,6 +21,11 @@ lexical_place lexical.NoMemory = record { line = 0; column = 0 }
 abbrev pub piece_place : Piece → Place
 piece_place (Is s) = s.place
 piece_place (Bad e) = lexical_place e
+
+-- the end or a lexical fault, behind which a text has no piece
+abbrev pub is_last : Piece → Bool
+is_last (Is s) = is_end s.token
+is_last (Bad e) = true
 
 -- the piece that the lexer gives, and those behind it
 abbrev pub then_more : Result ((Token × Place) × Unread) LexFault → (Unread → List Piece) → List Piece
