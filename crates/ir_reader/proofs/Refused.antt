@@ -90,9 +90,9 @@ beyond_is_not_within bytes m n l p e h k =
 
 pub none_beyond : (sites : List Site) (n : ℕ) → option_map (λ (s : Site). s.place) (slice_get sites n) ≡ None → length sites ≤ n
 none_beyond sites n e = elim (slice_get_cases sites n).1 [
-    | inl h ↦ absurd (cc (h.2, e))
-    | inr h ↦ h.0
-  ]
+  | inl h ↦ absurd (cc (h.2, e))
+  | inr h ↦ h.0
+]
 
 pub within : (bytes : List ℕ) (m : modules.Module) (l : Left) → read bytes ≡ Ok (m, l) → option_map (λ (s : Site). s.place) (slice_get (all_sites m.funcs) 4096) ≡ None → ReadsWithin bytes m
 within bytes m l e h = (read_to_end bytes m l e, none_beyond (all_sites m.funcs) 4096 h)
