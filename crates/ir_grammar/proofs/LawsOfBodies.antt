@@ -59,7 +59,7 @@ law_br_end l =
     (seq (law_typed l) (λ (c : TypedOperand). seq (is_sign 44 refl) (λ (c1 : Unit). seq law_label (λ (t : LocalId). seq (is_sign 44 refl) (λ (c2 : Unit). seq law_label (λ (f : LocalId).
     seq law_notes (λ (n : Unit). done (ends.Cond c t f)) refl) refl) refl) refl) refl) refl) refl refl) refl) (word (codes "br")) (sign 44) refl refl
 
-law_switch_case : {w : Bool} (l : Limits) → Law w (switch_case l) (begins_with (type_set true))
+pub law_switch_case : {w : Bool} (l : Limits) → Law w (switch_case l) (begins_with (type_set true))
 unfolding switch_case
 law_switch_case l = seq (law_typed l) (λ (v : TypedOperand). seq (is_sign 44 refl) (λ (c : Unit). seq law_label (λ (b : LocalId). done (record { value = v; to = b })) refl) refl) refl
 
@@ -116,7 +116,7 @@ law_block l h bs = shaped (seq (placed (or (law_labelled l h) (law_unlabelled l 
 law_begun : {w : Bool} (l : Limits) → AnyParams w l → (bs : List Block) (p : Place) (x : LocalId × (LocalId × Op)) → Law w (begun l bs p x) (goes_on_with lines_set (sign 44))
 law_begun l h bs p x = seq (law_lines l h x.0 (record { place = p; result = Some x.1.0; op = x.1.1 } ∷ [])) (λ (y : Lines). done (grown bs y.bare (block_of p y))) refl
 
-abbrev local_greedy : Set
+abbrev pub local_greedy : Set
 local_greedy = sign 44 ++ sign 61
 
 law_local_behind : {w : Bool} (l : Limits) → AnyParams w l → (bs : List Block) (b : Block) → Law w (local_behind l bs b) (goes_on_with (kind kinds.Local) local_greedy)
@@ -162,10 +162,10 @@ law_behind_void l h bs b = shaped (or (law_local_behind l h bs b) (or (law_gep_b
 
 -- ---- bodies
 
-abbrev z : Option Block → Shape
+abbrev pub z : Option Block → Shape
 z o = goes_on_with (next_set o) local_greedy
 
-law_next_block : {w : Bool} (l : Limits) → AnyParams w l → (bs : List Block) (o : Option Block) → Law w (next_block l bs o) (z o)
+pub law_next_block : {w : Bool} (l : Limits) → AnyParams w l → (bs : List Block) (o : Option Block) → Law w (next_block l bs o) (z o)
 law_next_block l h bs None = shaped (law_block l h bs) block_set local_greedy refl refl
 law_next_block l h bs (Some b) = law_behind_void l h bs b
 
@@ -180,7 +180,7 @@ apart_next (Some b) = refl
 pub law_last_blocks : {w : Bool} (p : Progress) → Law w (last_blocks p) (begins_with (sign 125))
 law_last_blocks p = seq (is_sign 125 refl) (λ (c : Unit). done (all_blocks p.done p.waits)) refl
 
-law_more_blocks : {w : Bool} (l : Limits) → AnyParams w l → (p : Progress) → Law w (more_blocks l p) (begins_with (next_set p.waits ++ sign 125))
+pub law_more_blocks : {w : Bool} (l : Limits) → AnyParams w l → (p : Progress) → Law w (more_blocks l p) (begins_with (next_set p.waits ++ sign 125))
 unfolding more_blocks
 law_more_blocks l h p =
     law_rounds (λ (p : Progress). next_set p.waits) (λ (p : Progress). next_block l p.done p.waits) (λ (p : Progress). last_blocks p) (λ (p : Progress). z p.waits) (λ (p : Progress). begins_with (sign 125)) []

@@ -166,7 +166,7 @@ pub law_note_or_metadata : {w : Bool} (d : Draft) → Law w (note_or_metadata d)
 unfolding note_or_metadata
 law_note_or_metadata d = seq law_meta (λ (m : Unit). or (seq law_note_rest (λ (n : Unit). done d) refl) (seq law_metadata_rest (λ (r : Unit). done (added d entities.Nothing)) refl) refl refl) refl
 
-abbrev step_greedy : Set
+abbrev pub step_greedy : Set
 step_greedy = entity_greedy ++ attribute_greedy
 
 law_behind_declaration : {w : Bool} (l : Limits) (d : Draft) → AnyParams w l → AnyFunctions w l → Law w (behind_declaration l d) (goes_on_with (next_set true) step_greedy)
@@ -174,10 +174,10 @@ unfolding behind_declaration
 law_behind_declaration l d h k =
     shaped (or (law_note_or_metadata d) (or (seq (law_attribute barred.Nothing) (λ (a : Attribute). done d) refl) (seq (law_other_entity l (length d.definitions) h k) (λ (e : Entity). done (added d e)) refl) refl refl) refl refl) (next_set true) step_greedy refl refl
 
-abbrev z : Bool → Shape
+abbrev pub z : Bool → Shape
 z b = goes_on_with (next_set b) step_greedy
 
-law_next_entity : {w : Bool} (l : Limits) (d : Draft) (b : Bool) → AnyParams w l → AnyFunctions w l → Law w (next_entity l d b) (z b)
+pub law_next_entity : {w : Bool} (l : Limits) (d : Draft) (b : Bool) → AnyParams w l → AnyFunctions w l → Law w (next_entity l d b) (z b)
 law_next_entity l d true h k = law_behind_declaration l d h k
 law_next_entity l d false h k = shaped (seq (law_entity l (length d.definitions) h k) (λ (e : Entity). done (added d e)) refl) entity_set step_greedy refl refl
 

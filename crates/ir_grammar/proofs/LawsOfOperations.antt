@@ -166,7 +166,7 @@ past_not_free : (w b : Bool) → (w ≡ true → b ≡ false) → b ≡ true →
 past_not_free true b h e = absurd (cc (h refl))
 past_not_free false b h e = refl
 
-law_next_item : {A : Type 0} {w : Bool} (l : Limits) {f : Form A} {z : Shape} → AnyParams w l → Law w f z → (xs : List A) → Law w (next_item l f xs) (with_any z)
+pub law_next_item : {A : Type 0} {w : Bool} (l : Limits) {f : Form A} {z : Shape} → AnyParams w l → Law w f z → (xs : List A) → Law w (next_item l f xs) (with_any z)
 law_next_item {w = w} l {f = f} {z = z} h law xs =
     law_choose (is_past l.params (length xs + 1)) _ f (with_any z)
     (λ e. law_over limits.Params (with_any z) (past_not_free w (is_past l.params (length xs + 1)) (λ free. h free (length xs + 1)) e) (λ t. any_token z.first t))

@@ -1,1 +1,4 @@
 pub mod Refused
+pub mod RoundLaws
+pub mod Loops
+pub mod Heads

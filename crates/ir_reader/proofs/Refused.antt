@@ -22,7 +22,10 @@ use Rattle.ir_phrases.specs.Gives.{left_out_if, refused, said, fault_of, Fails}
 use Rattle.ir_reader.specs.Refusals.{ReadsWithin, ExceedsNone, RefusesToken, ExceedsSites, IsRefusal}
 
 none_exceeds : (bytes : List ℕ) (at : List Piece) → read bytes ≡ Err (record { at = at; why = Refused }) → ExceedsNone bytes
-none_exceeds bytes at e w u t rest h = absurd (cc (e, exceeded_told bytes w u t rest h))
+none_exceeds bytes at e w u t rest h =
+    let told = exceeded_told bytes w u t rest h in
+    let same : Err (record { at = at; why = Refused }) ≡ Err {A = modules.Module × Left} (record { at = Is t ∷ rest; why = Exceeds w }) = sym e ∙ told in
+    absurd (cc same)
 
 refused_token : (bytes : List ℕ) (u rest : List Piece) (t : Spot) (named : Bool) → is_left_out t.token ≡ named → FirstRefused bytes u (Is t) rest → ExceedsNone bytes → IsRefusal bytes (left_out_if named t.place)
 refused_token bytes u rest t true e h none = (u, rest, t, h, refl, e, none)
@@ -78,7 +81,7 @@ place_there sites n p e = there (slice_get sites n) refl
     there (Some s) h = (s, h, cc (h, e))
 
 pub beyond_refused : (bytes : List ℕ) (m : modules.Module) (l : Left) (p : Place) → read bytes ≡ Ok (m, l) → option_map (λ (s : Site). s.place) (slice_get (all_sites m.funcs) 4096) ≡ Some p → IsRefusal bytes (faults.Limit p limits.Sites)
-beyond_refused bytes m l p e h = let s = place_there (all_sites m.funcs) 4096 p h in inr (refl, (m, read_to_end bytes m l e, s))
+beyond_refused bytes m l p e h = let s = place_there (all_sites m.funcs) 4096 p h in inr (refl, (m, read_to_end bytes m l e, s.0, s.1, s.2))
 
 pub beyond_is_not_within : (bytes : List ℕ) (m n : modules.Module) (l : Left) (p : Place) → read bytes ≡ Ok (m, l) → option_map (λ (s : Site). s.place) (slice_get (all_sites m.funcs) 4096) ≡ Some p → ReadsWithin bytes n → ⊥
 beyond_is_not_within bytes m n l p e h k =

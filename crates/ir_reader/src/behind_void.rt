@@ -1,10 +1,10 @@
-ghost use Rattle.std.specs.Prelude.{◌≡◌, ◌∷◌, ◌++◌, [], Some, IfOk};
-ghost use Rattle.ir_core.specs.declared.func.Block.{Block};
+ghost use Rattle.std.specs.Prelude.{◌≡◌, ◌∷◌, ◌++◌, [], IfOk};
+ghost use Rattle.ir_grammar.specs.Values.{gep_word};
 ghost use Rattle.ir_grammar.specs.declared.kinds.Kind.TheVariants as kinds;
 ghost use Rattle.ir_grammar.specs.Sets.{head_in};
 ghost use Rattle.ir_grammar.specs.Forms.{either};
 ghost use Rattle.ir_grammar.specs.Tokens.{stated, sign as sign_set, kind as kind_set};
-ghost use Rattle.ir_grammar.specs.Bodies.{settled, begun, labelled, local_begins, local_settles, local_behind, gep_begins, gep_settles, gep_behind, plain_value_set, plain_value, value_behind, lines_behind, other_lines, other_unlabelled, other_block, behind_void, next_set};
+ghost use Rattle.ir_grammar.specs.Bodies.{settled, begun, labelled, local_begins, local_settles, local_behind, gep_begins, gep_settles, gep_behind, plain_value_set, plain_value, value_behind, lines_behind, other_lines, other_unlabelled, other_block, other_block_set, behind_void};
 ghost use Rattle.ir_phrases.specs.Gives.{Gives};
 
 use crate::body::{finish, grown, labelled, lines, with_instr};
@@ -269,13 +269,23 @@ pub fn behind_void(
 }
 
 /// Does a value or a block stand next?
+#[tactic(auto, using(crate::proofs::Heads::void_heads))]
 pub fn goes_on_behind_void(reader: &Reader<'_>) -> bool
-    ensures { (b : Block) → result ≡ head_in (next_set (Some b)) reader.now.tokens }
+    ensures { result ≡ head_in (kind_set kinds.Local ++ gep_word ++ plain_value_set ++ other_block_set) reader.now.tokens }
 {
-    reader.is_kind(Kind::Local)
-        || reader.is_gep()
-        || is_plain_value(reader)
-        || reader.is_kind(Kind::Label)
-        || is_other_line(reader)
-        || is_end(reader)
+    let value = is_value_behind(reader);
+    let block = is_other_block(reader);
+    value || block
+}
+
+fn is_value_behind(reader: &Reader<'_>) -> bool
+    ensures { result ≡ head_in (kind_set kinds.Local ++ gep_word ++ plain_value_set) reader.now.tokens }
+{
+    reader.is_kind(Kind::Local) || reader.is_gep() || is_plain_value(reader)
+}
+
+fn is_other_block(reader: &Reader<'_>) -> bool
+    ensures { result ≡ head_in other_block_set reader.now.tokens }
+{
+    reader.is_kind(Kind::Label) || is_other_line(reader) || is_end(reader)
 }

@@ -2,7 +2,7 @@ ghost use Rattle.std.specs.Prelude.{◌≡◌, false, None};
 ghost use Rattle.ir_grammar.specs.Sets.{head_in};
 ghost use Rattle.ir_grammar.specs.Forms.{ret, either};
 ghost use Rattle.ir_grammar.specs.Tokens.{expect, words_of, one_word, look, stated};
-ghost use Rattle.ir_grammar.specs.Entities.{source_filename, target_words, target, attributes, distinct_word, metadata_rest, metadata, type_def, global_words, linkage, storage_words, align_or_note, one_global_end, global_end, global_var};
+ghost use Rattle.ir_grammar.specs.Entities.{source_filename, target_words, target, attributes, distinct_word, metadata_rest, metadata, type_def, global_words, one_linkage, linkage, storage_words, align_or_note, one_global_end, global_end, global_var};
 ghost use Rattle.ir_phrases.specs.Gives.{Gives, IsVerdict};
 
 use ir_core::{GlobalVar, TypeDef};
@@ -164,6 +164,14 @@ fn one_global_word(reader: &mut Reader<'_>) -> Result<bool, ReadFault>
     Ok(found)
 }
 
+/// One more word of a global, and whether it is internal with this word.
+fn one_more_word(reader: &mut Reader<'_>, internal: bool) -> Result<bool, ReadFault>
+    ensures { Gives result reader.new ((one_linkage internal).parse reader.old) }
+{
+    let next = one_global_word(reader)?;
+    Ok(internal || next)
+}
+
 /// { gword }
 #[tactic(auto, unfolding(ir_grammar::specs::Entities::linkage))]
 fn linkage(reader: &mut Reader<'_>) -> Result<bool, ReadFault>
@@ -171,8 +179,7 @@ fn linkage(reader: &mut Reader<'_>) -> Result<bool, ReadFault>
 {
     let mut internal = false;
     while is_global_word(reader) {
-        let next = one_global_word(reader)?;
-        internal = internal || next;
+        internal = one_more_word(reader, internal)?;
     }
     Ok(internal)
 }

@@ -1,7 +1,8 @@
-ghost use Rattle.std.specs.Prelude.{◌≡◌, IfOk};
+ghost use Rattle.std.specs.Prelude.{◌≡◌, ◌++◌, IfOk};
 ghost use Rattle.ir_grammar.specs.Sets.{head_in};
-ghost use Rattle.ir_grammar.specs.Tokens.{stated};
-ghost use Rattle.ir_grammar.specs.Entities.{other_entity, entity, no_entities, added, function_of, module_of, note_or_metadata, rest_of_note_or_metadata, with_other_entity, with_entity, behind_declaration, next_entity, other_entity_set, entity_set, next_set, text_end, text_form};
+ghost use Rattle.ir_grammar.specs.declared.kinds.Kind.TheVariants as kinds;
+ghost use Rattle.ir_grammar.specs.Tokens.{stated, kind as kind_set, sign as sign_set};
+ghost use Rattle.ir_grammar.specs.Entities.{other_entity, entity, no_entities, added, function_of, module_of, note_or_metadata, rest_of_note_or_metadata, with_other_entity, with_entity, behind_declaration, next_entity, source_word, target_word, attributes_word, define_word, declare_word, other_entity_set, entity_set, next_set, text_end, text_form};
 ghost use Rattle.ir_phrases.specs.Gives.{Gives};
 
 use crate::entities::{
@@ -97,10 +98,16 @@ fn note_or_metadata(reader: &mut Reader<'_>, draft: Draft) -> Result<Draft, Read
     rest_of_note_or_metadata(reader, draft)
 }
 
+fn is_note_rest(reader: &Reader<'_>) -> bool
+    ensures { result ≡ head_in (kind_set kinds.Meta ++ sign_set 33) reader.now.tokens }
+{
+    reader.is_kind(Kind::Meta) || reader.is_sign(b'!')
+}
+
 fn rest_of_note_or_metadata(reader: &mut Reader<'_>, draft: Draft) -> Result<Draft, ReadFault>
     ensures { Gives result reader.new ((rest_of_note_or_metadata draft).parse reader.old) }
 {
-    if reader.is_kind(Kind::Meta) || reader.is_sign(b'!') {
+    if is_note_rest(reader) {
         reader.note_rest()?;
         return Ok(draft);
     }
@@ -147,17 +154,29 @@ fn next_entity(reader: &mut Reader<'_>, draft: Draft) -> Result<Draft, ReadFault
     with_entity(reader, draft)
 }
 
-/// Does an entity stand next that begins with no META?
-fn is_other_entity(reader: &Reader<'_>) -> bool
-    ensures { result ≡ head_in other_entity_set reader.now.tokens }
+fn is_property(reader: &Reader<'_>) -> bool
+    ensures { result ≡ head_in (source_word ++ target_word ++ attributes_word) reader.now.tokens }
 {
-    reader.is_word(b"source_filename")
-        || reader.is_word(b"target")
-        || reader.is_word(b"attributes")
-        || reader.is_kind(Kind::Local)
+    reader.is_word(b"source_filename") || reader.is_word(b"target") || reader.is_word(b"attributes")
+}
+
+fn is_definition(reader: &Reader<'_>) -> bool
+    ensures { result ≡ head_in (kind_set kinds.Local ++ kind_set kinds.Global ++ define_word ++ declare_word) reader.now.tokens }
+{
+    reader.is_kind(Kind::Local)
         || reader.is_kind(Kind::Global)
         || reader.is_word(b"define")
         || reader.is_word(b"declare")
+}
+
+/// Does an entity stand next that begins with no META?
+#[tactic(auto, using(crate::proofs::Heads::entity_heads))]
+fn is_other_entity(reader: &Reader<'_>) -> bool
+    ensures { result ≡ head_in other_entity_set reader.now.tokens }
+{
+    let property = is_property(reader);
+    let definition = is_definition(reader);
+    property || definition
 }
 
 fn is_entity(reader: &Reader<'_>) -> bool

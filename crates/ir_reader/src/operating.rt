@@ -1,8 +1,8 @@
-ghost use Rattle.std.specs.Prelude.{◌≡◌, Some};
+ghost use Rattle.std.specs.Prelude.{◌≡◌, ◌++◌, Some};
 ghost use Rattle.ir_grammar.specs.Sets.{head_in};
 ghost use Rattle.ir_phrases.specs.Gives.{Gives, IsVerdict};
 ghost use Rattle.ir_grammar.specs.Tokens.{look, words_of, one_word, skip, expect, stated};
-ghost use Rattle.ir_grammar.specs.Operations.{align_then_notes, note_then_notes, align_or_notes, align_and_notes, bin_words, bin_flag, bin, order_words, may_samesign, icmp, select, cast_words, cast_flag, cast, load, store, other_words, other_op};
+ghost use Rattle.ir_grammar.specs.Operations.{align_then_notes, note_then_notes, align_or_notes, align_and_notes, bin_words, bin_flag, bin, order_words, may_samesign, icmp, select, cast_words, cast_flag, cast, load, store, icmp_word, select_word, alloca_word, load_word, phi_word, other_words, other_op};
 
 use ir_core::{BinOp, CastOp, Cmp, Op};
 use ir_phrases::{ReadFault, Reader};
@@ -334,13 +334,25 @@ pub fn store(reader: &mut Reader<'_>) -> Result<Op, ReadFault>
 }
 
 /// Does such an operation stand next?
+#[tactic(auto, using(crate::proofs::Heads::op_heads))]
 pub fn is_other_op(reader: &Reader<'_>) -> bool
     ensures { result ≡ head_in other_words reader.now.tokens }
 {
-    is_bin(reader)
-        || reader.is_word(b"icmp")
-        || reader.is_word(b"select")
-        || is_cast(reader)
+    let computes = is_computation(reader);
+    let other = is_cast_or_memory(reader);
+    computes || other
+}
+
+fn is_computation(reader: &Reader<'_>) -> bool
+    ensures { result ≡ head_in (words_of bin_words ++ icmp_word ++ select_word) reader.now.tokens }
+{
+    is_bin(reader) || reader.is_word(b"icmp") || reader.is_word(b"select")
+}
+
+fn is_cast_or_memory(reader: &Reader<'_>) -> bool
+    ensures { result ≡ head_in (words_of cast_words ++ alloca_word ++ load_word ++ phi_word) reader.now.tokens }
+{
+    is_cast(reader)
         || reader.is_word(b"alloca")
         || reader.is_word(b"load")
         || reader.is_word(b"phi")
