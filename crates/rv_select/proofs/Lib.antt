@@ -7,6 +7,7 @@ pub mod Items
 pub mod Loads
 pub mod Moving
 pub mod Operands
+pub mod PhiValues
 pub mod Prepended
 pub mod Results
 pub mod Return
