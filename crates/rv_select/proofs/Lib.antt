@@ -1,6 +1,8 @@
 pub mod BinRow
 pub mod Carried
+pub mod Distinct
 pub mod Entry
+pub mod Giving
 pub mod Halves
 pub mod HeadPlaces
 pub mod Items
