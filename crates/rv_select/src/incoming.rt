@@ -27,7 +27,7 @@ impl Model for Incoming {
 
 impl Incoming {
     /// The values of all phis of a body.
-    pub fn of(alloc: Global, blocks: &[FlatBlock]) -> Result<Incoming, NoMemory>
+    pub fn of_blocks(alloc: Global, blocks: &[FlatBlock]) -> Result<Incoming, NoMemory>
         ensures { IfOk result (λ values. HasIncoming values blocks.now) }
     {
         let mut incoming = Incoming {

@@ -55,8 +55,9 @@ pub fn with_frame(alloc: Global, b: &FlatBody, f: &Frame) -> Result<Code, Select
 {
     let mut drafts = Drafter::new(alloc);
     push_prologue(&mut drafts, f, b.params)?;
-    let incoming = Incoming::of(alloc, b.blocks.as_slice())?;
-    let heads = push_blocks(alloc, &mut drafts, f, &incoming, b.blocks.as_slice())?;
+    let blocks = b.blocks.as_slice();
+    let incoming = Incoming::of_blocks(alloc, blocks)?;
+    let heads = push_blocks(alloc, &mut drafts, f, &incoming, blocks)?;
     if drafts.len() > MOST_ITEMS {
         return Err(SelectFault::NoSize(NoSize {
             cause: Cause::Code,
