@@ -7,22 +7,23 @@ use Rattle.ir_core.specs.declared.flat.FlatBlock.{FlatBlock}
 use Rattle.ir_core.specs.Flat.{entry_for}
 use Rattle.rv_select.specs.Lowered.{phis_of}
 
--- the value that a phi has for a block, and one that is not there has none
+-- the value that a phi has for a block; a phi that is not there has none
 abbrev pub value_for : ℕ → Option Phi → Option FlatOp
 value_for from None = None
 value_for from (Some p) = entry_for from p.entries
 
--- where a value stands: the number of the phi's block, the phi's position there, and the block that control comes from
-abbrev pub Edge : Type 0
-Edge = ℕ × ℕ × ℕ
+-- an edge into a phi: the numbers of the phi's block, of the phi among those there, and of the block that control comes from
+abbrev pub PhiEdge : Type 0
+PhiEdge = ℕ × ℕ × ℕ
 
--- two are the same
-abbrev pub is_edge : Edge → Edge → Bool
-is_edge d e = d.0 == e.0 && d.1 == e.1 && d.2 == e.2
+-- two edges are the same
+abbrev pub same_edge : PhiEdge → PhiEdge → Bool
+same_edge d e = d.0 == e.0 && d.1 == e.1 && d.2 == e.2
 
-abbrev pub value_at : List (Edge × FlatOp) → ℕ → ℕ → ℕ → Option FlatOp
-value_at values to position from = lookup (is_edge (to, position, from)) values
+-- the value at an edge, if the table has one
+abbrev pub value_at : List (PhiEdge × FlatOp) → ℕ → ℕ → ℕ → Option FlatOp
+value_at values to position from = lookup (same_edge (to, position, from)) values
 
 -- the table has exactly the values of these blocks' phis
-abbrev pub HasIncoming : List (Edge × FlatOp) → List FlatBlock → Type 0
+abbrev pub HasIncoming : List (PhiEdge × FlatOp) → List FlatBlock → Type 0
 HasIncoming values blocks = (to position from : ℕ) → value_at values to position from ≡ value_for from (slice_get (phis_of (slice_get blocks to)) position)

@@ -18,9 +18,9 @@ pub struct Incoming {
 impl Model for Incoming {
     ghost use Rattle.std.specs.Prelude.{List};
     ghost use Rattle.ir_core.specs.declared.flat.FlatOp.{FlatOp};
-    ghost use Rattle.rv_select.specs.Incoming.{Edge};
+    ghost use Rattle.rv_select.specs.Incoming.{PhiEdge};
 
-    ghost Value = { List (Edge × FlatOp) };
+    ghost Value = { List (PhiEdge × FlatOp) };
 
     ghost view = { λ i. i.values.entries };
 }

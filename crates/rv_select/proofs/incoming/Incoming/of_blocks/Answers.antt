@@ -1,4 +1,4 @@
-use Rattle.std.proofs.Common.{◌≡◌, ◌≤◌, ◌∙◌, length, nat_lt, if◌then◌else◌, None, slice_get, ap, arith}
+use Rattle.std.proofs.Common.{◌≡◌, ◌∙◌, length, nat_lt, if◌then◌else◌, None, slice_get, ap, arith}
 use Rattle.rv_select.specs.Lowered.{phis_of}
 use Rattle.rv_select.specs.Incoming.{value_at, value_for}
 use Rattle.rv_select.proofs.PhiValues.{next_block, all_blocks}
