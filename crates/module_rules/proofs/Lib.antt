@@ -1,0 +1,11 @@
+pub mod Folds
+pub mod Earliest
+pub mod Faulty
+pub mod Decided
+pub mod At
+pub mod Listing
+pub mod Sets
+pub mod Distinct
+pub mod IntegerLaws
+mod TargetLaws
+mod SymbolLaws

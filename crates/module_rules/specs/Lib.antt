@@ -1,0 +1,5 @@
+pub mod First
+pub mod Faults
+pub mod HasMain
+pub mod Target
+pub mod SymbolFaults
