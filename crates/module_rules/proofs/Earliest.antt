@@ -1,5 +1,5 @@
 -- The first of the places at which a rule is broken.
-use Rattle.std.proofs.Common.{◌≡◌, ◌⊎◌, inl, inr, refl, sym, ap, ◌∙◌, subst, Bool, true, false, cond, IsTrue, List, [], ◌∷◌, Some, None, arith}
+use Rattle.std.proofs.Common.{◌≡◌, ◌⊎◌, inl, inr, refl, sym, ap, ◌∙◌, subst, Bool, true, false, cond, if◌then◌else◌, IsTrue, List, [], ◌∷◌, Option, Some, None, arith}
 use Rattle.std.proofs.lemmas.Bool.Decides.{nat_tests}
 use Rattle.oi_base.specs.declared.ids.Place.{Place}
 use Rattle.ir_core.specs.Stands.{is_up_to}
@@ -67,3 +67,69 @@ found Breaks (q ∷ ps) sound all = let l = least q ps in subst (IsFound Breaks)
         of_each : (p : Place) → Has (q ∷ ps) p → IsTrue (is_up_to r p)
         of_each p (inl e) = subst (λ x. IsTrue (is_up_to r x)) e l.up_to_it
         of_each p (inr h) = l.up_to_each p h
+
+-- ---- one more place
+
+-- a rule that is broken where another is, and at r, and elsewhere behind r alone
+pub found_more : (P Q : Place → Type 0) (o : Option Place) (r : Place) → IsFound P o → ((p : Place) → P p → Q p) → Q r → ((p : Place) → Q p → P p ⊎ (is_up_to r p ≡ true)) → IsFound Q (earlier o r)
+found_more P Q None r f up here only = record { broken = here; first = λ p q. of_only p (only p q) }
+  where
+    of_only : (p : Place) → P p ⊎ (is_up_to r p ≡ true) → IsTrue (is_up_to r p)
+    of_only p (inl h) = absurd (f p h)
+    of_only p (inr h) = h
+found_more P Q (Some x) r f up here only = by_test (is_up_to x r) refl
+  where
+    behind : (p : Place) → is_up_to x r ≡ true → P p ⊎ (is_up_to r p ≡ true) → IsTrue (is_up_to x p)
+    behind p t (inl h) = f.first p h
+    behind p t (inr h) = up_to_trans x r p t h
+
+    before : (p : Place) → is_up_to x r ≡ false → P p ⊎ (is_up_to r p ≡ true) → IsTrue (is_up_to r p)
+    before p t (inl h) = up_to_trans r x p (up_to_total x r t) (f.first p h)
+    before p t (inr h) = h
+
+    by_test : (t : Bool) → is_up_to x r ≡ t → IsFound Q (if t then Some x else Some r)
+    by_test true t = record { broken = up x f.broken; first = λ p q. behind p t (only p q) }
+    by_test false t = record { broken = here; first = λ p q. before p t (only p q) }
+
+-- a rule that is broken at the same places
+pub found_same : (P Q : Place → Type 0) (o : Option Place) → IsFound P o → ((p : Place) → P p → Q p) → ((p : Place) → Q p → P p) → IsFound Q o
+found_same P Q None f up down = λ p q. f p (down p q)
+found_same P Q (Some x) f up down = record { broken = up x f.broken; first = λ p q. f.first p (down p q) }
+
+-- a rule that is broken where another is, and elsewhere behind r alone, where r makes no difference
+pub found_beside : (P Q : Place → Type 0) (o : Option Place) (r : Place) → IsFound P o → earlier o r ≡ o → ((p : Place) → P p → Q p) → ((p : Place) → Q p → P p ⊎ (is_up_to r p ≡ true)) → IsFound Q o
+found_beside P Q None r f same up only = absurd (let clash : Some r ≡ None = same in cc)
+found_beside P Q (Some x) r f same up only = record { broken = up x f.broken; first = λ p q. of_only p (only p q) }
+  where
+    up_to_r : (t : Bool) → is_up_to x r ≡ t → cond t (Some x) (Some r) ≡ Some x → is_up_to x r ≡ true
+    up_to_r true t e = t
+    up_to_r false t e = let is : r ≡ x = cc in subst (λ (z : Place). is_up_to x z ≡ true) (sym is) (up_to_itself x)
+
+    of_only : (p : Place) → P p ⊎ (is_up_to r p ≡ true) → IsTrue (is_up_to x p)
+    of_only p (inl h) = f.first p h
+    of_only p (inr h) = up_to_trans x r p (up_to_r (is_up_to x r) refl same) h
+
+-- a rule that is broken where another is and at some places
+pub found_also : (P : Place → Type 0) (o : Option Place) (ps : List Place) → IsFound P o → IsFound (λ (p : Place). P p ⊎ Has ps p) (earliest o ps)
+found_also P o [] f = found_same P (λ (p : Place). P p ⊎ ⊥) o f (λ p h. inl h) (λ p h. left p h)
+  where
+    left : (p : Place) → P p ⊎ ⊥ → P p
+    left p (inl h) = h
+    left p (inr h) = absurd h
+found_also P o (r ∷ rs) f =
+    found_same (λ (p : Place). (P p ⊎ (r ≡ p)) ⊎ Has rs p) (λ (p : Place). P p ⊎ Has (r ∷ rs) p) (earliest (earlier o r) rs)
+    (found_also (λ (p : Place). P p ⊎ (r ≡ p)) (earlier o r) rs (found_more P (λ (p : Place). P p ⊎ (r ≡ p)) o r f (λ p h. inl h) (inr refl) only)) there back
+  where
+    only : (p : Place) → P p ⊎ (r ≡ p) → P p ⊎ (is_up_to r p ≡ true)
+    only p (inl h) = inl h
+    only p (inr e) = inr (subst (λ (z : Place). is_up_to r z ≡ true) e (up_to_itself r))
+
+    there : (p : Place) → (P p ⊎ (r ≡ p)) ⊎ Has rs p → P p ⊎ Has (r ∷ rs) p
+    there p (inl (inl h)) = inl h
+    there p (inl (inr e)) = inr (inl e)
+    there p (inr h) = inr (inr h)
+
+    back : (p : Place) → P p ⊎ Has (r ∷ rs) p → (P p ⊎ (r ≡ p)) ⊎ Has rs p
+    back p (inl h) = inl (inl h)
+    back p (inr (inl e)) = inl (inr e)
+    back p (inr (inr h)) = inr h

@@ -7,5 +7,11 @@ pub mod Listing
 pub mod Sets
 pub mod Distinct
 pub mod IntegerLaws
+mod StructNames
+mod UseLaws
+mod Reaching
+mod TypeNameLaws
+mod TypeLevels
+mod ConstLevels
 mod TargetLaws
 mod SymbolLaws

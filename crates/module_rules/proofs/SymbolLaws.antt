@@ -11,10 +11,10 @@ use Rattle.ir_core.specs.declared.module.Module.{Module}
 use Rattle.ir_core.specs.Stands.{is_up_to}
 use Rattle.ir_core.specs.ValidModule.{Introduced, introduced_globals, introduced_funcs, BreaksSymbolTwice}
 use Rattle.ir_core.proofs.Lists.{Has, has_left, has_right, has_at, at_has}
-use Rattle.module_rules.specs.First.{earlier, earliest, IsFound}
+use Rattle.module_rules.specs.First.{earliest, IsFound}
 use Rattle.module_rules.specs.SymbolFaults.{later, again_at, least_with, Symbols, no_symbols, with_symbol, with_symbols, introduced_declared, symbols_of}
 use Rattle.module_rules.proofs.Decided.{false_is_not_true}
-use Rattle.module_rules.proofs.Earliest.{up_to_itself, up_to_trans, up_to_total}
+use Rattle.module_rules.proofs.Earliest.{up_to_itself, up_to_trans, up_to_total, found_more, found_same}
 use Rattle.module_rules.proofs.Faulty.{has_in}
 use Rattle.module_rules.proofs.Sets.{symbol_of}
 use Rattle.module_rules.proofs.Distinct.{at_in_first}
@@ -54,34 +54,6 @@ Twice seen p =
 record Tells (s : Symbols) (seen : List Introduced) : Type 0 where
   least : (n : ℕ) → IsLeastOf n seen (lookup (nat_eq n) s.least)
   first : IsFound (Twice seen) s.first
-
--- ---- one more place
-
--- a rule that is broken where another is, and at r, and elsewhere behind r alone
-found_more : (P Q : Place → Type 0) (o : Option Place) (r : Place) → IsFound P o → ((p : Place) → P p → Q p) → Q r → ((p : Place) → Q p → P p ⊎ (is_up_to r p ≡ true)) → IsFound Q (earlier o r)
-found_more P Q None r f up here only = record { broken = here; first = λ p q. of_only p (only p q) }
-  where
-    of_only : (p : Place) → P p ⊎ (is_up_to r p ≡ true) → IsTrue (is_up_to r p)
-    of_only p (inl h) = absurd (f p h)
-    of_only p (inr h) = h
-found_more P Q (Some x) r f up here only = by_test (is_up_to x r) refl
-  where
-    behind : (p : Place) → is_up_to x r ≡ true → P p ⊎ (is_up_to r p ≡ true) → IsTrue (is_up_to x p)
-    behind p t (inl h) = f.first p h
-    behind p t (inr h) = up_to_trans x r p t h
-
-    before : (p : Place) → is_up_to x r ≡ false → P p ⊎ (is_up_to r p ≡ true) → IsTrue (is_up_to r p)
-    before p t (inl h) = up_to_trans r x p (up_to_total x r t) (f.first p h)
-    before p t (inr h) = h
-
-    by_test : (t : Bool) → is_up_to x r ≡ t → IsFound Q (if t then Some x else Some r)
-    by_test true t = record { broken = up x f.broken; first = λ p q. behind p t (only p q) }
-    by_test false t = record { broken = here; first = λ p q. before p t (only p q) }
-
--- a rule that is broken at the same places
-found_same : (P Q : Place → Type 0) (o : Option Place) → IsFound P o → ((p : Place) → P p → Q p) → ((p : Place) → Q p → P p) → IsFound Q o
-found_same P Q None f up down = λ p q. f p (down p q)
-found_same P Q (Some x) f up down = record { broken = up x f.broken; first = λ p q. f.first p (down p q) }
 
 -- ---- one more symbol
 

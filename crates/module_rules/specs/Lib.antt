@@ -3,3 +3,5 @@ pub mod Faults
 pub mod HasMain
 pub mod Target
 pub mod SymbolFaults
+pub mod TypeFaults
+pub mod Cycles

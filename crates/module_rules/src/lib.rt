@@ -2,14 +2,20 @@
 //! integers fit their types (docs/RULES.md).
 #![tactic(auto)]
 
+mod components;
+mod cycles;
 mod first;
 pub mod has_main;
 mod integers;
 mod numbers;
+mod struct_names;
 pub mod symbols;
 pub mod target;
 #[cfg(test)]
 mod tests;
+pub mod type_names;
+mod type_parts;
+mod type_uses;
 mod variables;
 
 pub use first::{earlier, earlier_if, is_up_to};
