@@ -1,6 +1,2 @@
-pub mod First
 pub mod Faults
-pub mod HasMain
 pub mod CallFaults
-pub mod Target
-pub mod SymbolFaults

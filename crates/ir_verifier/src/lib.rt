@@ -1,4 +1,5 @@
-//! The verifier: which rule of the accepted IR a module breaks first, and where (docs/RULES.md).
+//! The verifier: which rule of the accepted IR a module breaks first, and where (docs/RULES.md). The rules of functions stand
+//! here, those of the module as a whole in `module_rules`.
 #![tactic(auto)]
 
 mod callees;
@@ -6,15 +7,10 @@ mod calls;
 mod cases;
 mod constants;
 mod entry;
-mod first;
-mod has_main;
 mod kinds;
 mod names;
-mod numbers;
 mod positions;
 mod references;
 mod scope;
-mod symbols;
-mod target;
 #[cfg(test)]
 mod tests;

@@ -1,0 +1,7 @@
+pub mod First
+pub mod Faults
+pub mod HasMain
+pub mod Target
+pub mod SymbolFaults
+pub mod TypeFaults
+pub mod Cycles
