@@ -18,3 +18,5 @@ mod Distinct
 mod CallLaws
 mod TargetLaws
 mod SymbolLaws
+mod TypeLaws
+mod TypesFound

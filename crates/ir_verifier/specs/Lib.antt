@@ -4,3 +4,4 @@ pub mod HasMain
 pub mod CallFaults
 pub mod Target
 pub mod SymbolFaults
+pub mod TypeFaults

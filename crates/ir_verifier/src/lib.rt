@@ -13,8 +13,11 @@ mod names;
 mod numbers;
 mod positions;
 mod references;
+mod registers;
 mod scope;
 mod symbols;
 mod target;
+mod types;
+mod walk;
 #[cfg(test)]
 mod tests;
