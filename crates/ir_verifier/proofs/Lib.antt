@@ -20,3 +20,5 @@ mod TargetLaws
 mod SymbolLaws
 mod TypeLaws
 mod TypesFound
+mod InnerTypes
+mod OffsetLaws

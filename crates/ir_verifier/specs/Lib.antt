@@ -5,3 +5,5 @@ pub mod CallFaults
 pub mod Target
 pub mod SymbolFaults
 pub mod TypeFaults
+pub mod PhiFaults
+pub mod Forms

@@ -78,7 +78,7 @@ pub fn global_numbers(alloc: Global, globals: &[GlobalVar]) -> Result<Numbers, N
     Ok(numbers)
 }
 
-fn label_numbers(alloc: Global, blocks: &[Block]) -> Result<Numbers, NoMemory>
+pub fn label_numbers(alloc: Global, blocks: &[Block]) -> Result<Numbers, NoMemory>
     ensures { IfOk result (λ ns. ns ≡ numbers_of (map label_number blocks.now)) }
 {
     let mut numbers = Numbers::new(alloc);

@@ -59,7 +59,7 @@ fn const_walks_into(defs: &TypeDefs, source: &IrType, indices: &[TypedCount]) ->
 {
     let mut at = source;
     for index in indices {
-        match next(defs, at, &index.ty, Some(index.count)) {
+        match next_by(defs, at, index) {
             Some(inner) => at = inner,
             None => return false,
         }
@@ -67,8 +67,15 @@ fn const_walks_into(defs: &TypeDefs, source: &IrType, indices: &[TypedCount]) ->
     true
 }
 
+/// What a constant index leads to.
+pub fn next_by<'a>(defs: &'a TypeDefs, t: &'a IrType, index: &TypedCount) -> Option<&'a IrType>
+    ensures { option_copied result ≡ next defs.now t.now (const_index index.now) }
+{
+    next(defs, t, &index.ty, Some(index.count))
+}
+
 /// What an index, of this type and number, leads to.
-pub fn next<'a>(
+fn next<'a>(
     defs: &'a TypeDefs,
     t: &'a IrType,
     ty: &IrType,
