@@ -22,3 +22,6 @@ mod TypeLaws
 mod TypesFound
 mod InnerTypes
 mod OffsetLaws
+mod PredecessorLaws
+mod ValueLaws
+mod PhiLaws
