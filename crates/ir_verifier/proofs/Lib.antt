@@ -25,3 +25,4 @@ mod OffsetLaws
 mod PredecessorLaws
 mod ValueLaws
 mod PhiLaws
+mod Measured

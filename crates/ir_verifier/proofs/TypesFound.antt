@@ -131,7 +131,7 @@ module _ (m : Module) (f : Func) where
   all_decide : (as' : List TypedOperand) → Decides (list_all (operand_agrees (typing_of m f)) as') (Agree as')
   all_decide as' = each (operand_agrees (typing_of m f)) (OperandAgrees Defs f) operand_decides as'
 
-  step_decides : (s : Step) → Decides (step_agrees (typing_of m f) f.result s) (StepAgrees Defs f s)
+  pub step_decides : (s : Step) → Decides (step_agrees (typing_of m f) f.result s) (StepAgrees Defs f s)
   step_decides (Does i) = and_then (list_all (operand_agrees (typing_of m f)) (op_operands i.op)) (fits_op (typing_of m f) i.op) (all_decide (op_operands i.op)) (op_decides i.op)
   step_decides (Ends b) = and_then (list_all (operand_agrees (typing_of m f)) (end_operands b.end)) (fits_end f.result b.end) (all_decide (end_operands b.end)) (end_decides b.end)
 

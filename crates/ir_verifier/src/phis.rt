@@ -1,5 +1,7 @@
-ghost use Rattle.std.specs.Prelude.{◌≡◌, None, map, IfOk, OnOk, All};
-ghost use Rattle.std.specs.Option.{option_copied};
+ghost use Rattle.std.specs.Prelude.{◌≡◌, None, IfOk, OnOk, All, Contains};
+ghost use Rattle.oi_base.specs.declared.ids.Place as places;
+ghost use Rattle.ir_core.specs.ValidTypes.{BreaksTypeNames, BreaksSizes};
+ghost use Rattle.ir_core.specs.ValidOps.{BreaksTypes, BreaksConstants};
 ghost use Rattle.ir_core.specs.ValidPaths.{BreaksPhis};
 ghost use Rattle.ir_verifier.specs.First.{earliest, IsFound};
 ghost use Rattle.ir_verifier.specs.PhiFaults.{row_at, no_values, agrees_with, with_value, are_listed, entries_agree, has_good_entries, is_good_phi, block_phi_faults, phi_faults, AreMeasured, IsMeasured, IsMeasuredBlock, IsMeasuredFunc};
@@ -28,9 +30,15 @@ impl Model for Values {
     ghost view = { λ s. record { labels = s.labels; values = s.values.items } };
 }
 
-/// The first phi whose blocks are not exactly the predecessors of its block, or with two values for one of them.
+/// The first phi whose blocks are not exactly the predecessors of its block, or with two values for one of them. Its
+/// condition is that the module's types have names and sizes as they must, and that the types and constants of this
+/// function of it agree and fit, so that offsets can be told.
 pub fn first_break(alloc: Global, m: &Module, f: &Func) -> Result<Option<Place>, NoMemory>
-    requires measured { IsMeasuredFunc m.now.types.defs f.now }
+    requires inside { Contains m.now.funcs f.now }
+    requires type_names { (p : places.Place) → BreaksTypeNames m.now p → ⊥ }
+    requires sizes { (p : places.Place) → BreaksSizes m.now p → ⊥ }
+    requires types { (p : places.Place) → BreaksTypes m.now f.now p → ⊥ }
+    requires constants { (p : places.Place) → BreaksConstants f.now p → ⊥ }
     ensures found { IfOk result (IsFound (BreaksPhis m.now f.now)) }
 {
     let predecessors = Predecessors::of(alloc, f)?;

@@ -4,7 +4,11 @@ use Rattle.ir_core.specs.ValidPaths.{BreaksPhis}
 use Rattle.ir_verifier.specs.First.{earliest, IsFound}
 use Rattle.ir_verifier.specs.PhiFaults.{phi_faults}
 use Rattle.ir_verifier.proofs.PhiLaws.{phis_found}
+use Rattle.ir_verifier.proofs.Measured.{measured}
 use Rattle.ir_verifier.proofs.phis.first_break.Goals as goal
+
+pub first_fault-requires : goal.first_fault-requires
+first_fault-requires c = record { measured = measured c.args.m.now c.args.f.now c.requires.inside c.requires.type_names c.requires.sizes c.requires.types c.requires.constants }
 
 pub returns : goal.returns
 returns c = record {
