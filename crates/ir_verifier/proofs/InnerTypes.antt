@@ -20,6 +20,7 @@ use Rattle.ir_core.proofs.Lists.{Has, contains, has_at}
 use Rattle.ir_core.proofs.Names.{some_value}
 use Rattle.ir_core.proofs.Fields.{named_layout}
 use Rattle.ir_core.proofs.Layouts.{at_array, at_struct}
+use Rattle.ir_verifier.proofs.TypeLaws.{none_at}
 
 -- ---- one level of a type
 
@@ -38,9 +39,6 @@ is_name (Struct' _ _) x e = cc
 is_name (Named y) x e = cc
 
 -- a field stands in a struct alone
-none_at : (k : ℕ) (u : IrType) → slice_get [] k ≡ Some u → ⊥
-none_at k u e = let clash : None ≡ Some u = e in cc
-
 struct_at : (l : IrType-F IrType) (k : ℕ) (u : IrType) → slice_get (types_in l) k ≡ Some u → (ts : List IrType) × (l ≡ IrType-F.Struct ts) × (slice_get ts k ≡ Some u)
 struct_at IrType-F.Void k u e = absurd (none_at k u e)
 struct_at (IrType-F.Int w) k u e = absurd (none_at k u e)

@@ -40,6 +40,7 @@ use Rattle.ir_core.proofs.AcyclicLemmas.{acyclic_laid}
 use Rattle.ir_verifier.specs.TypeFaults.{step_agrees, typing_of}
 use Rattle.ir_verifier.specs.Faults.{operand_fits}
 use Rattle.ir_verifier.specs.PhiFaults.{IsMeasured, AreMeasured, IsMeasuredBlock, IsMeasuredFunc}
+use Rattle.ir_verifier.proofs.Decided.{false_is_not_true}
 use Rattle.ir_verifier.proofs.Faulty.{has}
 use Rattle.ir_verifier.proofs.ConstantLaws.{operand_decides}
 use Rattle.ir_verifier.proofs.TypesFound.{step_decides}
@@ -67,10 +68,7 @@ has_map g (y ∷ ys) x (inr h) = inr (has_map g ys x h)
 -- what isn't false of something that is decided is true
 decided : {P : Type 0} (t : Bool) → Decides t P → ((P → ⊥) → ⊥) → P
 decided true d twice = d.0 refl
-decided false d twice = absurd (twice (λ p. false_is_not (d.1 p)))
-  where
-    false_is_not : false ≡ true → ⊥
-    false_is_not e = cc
+decided false d twice = absurd (twice (λ p. false_is_not_true (d.1 p)))
 
 -- ---- `void`
 
@@ -97,10 +95,7 @@ module _ (m : Module) (names : (p : Place) → BreaksTypeNames m p → ⊥) wher
   among x = is_some (definition Defs x)
 
   use_no_void : (p : Place) (t : IrType) → Has (type_uses m) (value_use p t) → HasNoVoid t
-  use_no_void p t h = no_void t (λ no. names p (inl (value_use p t, contains (type_uses m) (value_use p t) h, refl, (no, λ r. false_is_not r.0))))
-    where
-      false_is_not : false ≡ true → ⊥
-      false_is_not e = cc
+  use_no_void p t h = no_void t (λ no. names p (inl (value_use p t, contains (type_uses m) (value_use p t) h, refl, (no, λ r. false_is_not_true r.0))))
 
   -- a name without a definition stands for no struct
   not_struct : (n : ℕ) (x : TypeName) (fields : List IrType) → definition Defs x ≡ None → out-IrType (resolved n Defs (Named x)) ≡ IrType-F.Struct fields → ⊥

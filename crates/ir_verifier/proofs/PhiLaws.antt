@@ -18,14 +18,14 @@ use Rattle.ir_core.specs.ValidConsts.{Meaning, meaning}
 use Rattle.ir_core.specs.ValidPaths.{Precedes, HasGoodEntries, BreaksPhis}
 use Rattle.ir_core.proofs.Lists.{Has, has_part, contains}
 use Rattle.ir_verifier.specs.First.{earliest, IsFound}
-use Rattle.ir_verifier.specs.Faults.{place_if, with_number}
+use Rattle.ir_verifier.specs.Faults.{place_if}
 use Rattle.ir_verifier.specs.PhiFaults.{row_at, sources_of, same_meaning, Values, no_values, is_value, agrees_at, with_value_at, are_listed, entries_agree, has_good_entries, is_good_phi, phi_fault, block_phi_faults, phi_faults}
 use Rattle.ir_verifier.proofs.Decided.{always, never, passes, false_is_not_true}
 use Rattle.ir_verifier.proofs.Earliest.{found}
 use Rattle.ir_verifier.proofs.Faulty.{has, has_fault, fault_has}
 use Rattle.ir_verifier.proofs.Listing.{same_local}
-use Rattle.ir_verifier.proofs.ReferenceLaws.{number_decides, in_numbers, numbers_in, has_made}
-use Rattle.ir_verifier.proofs.PredecessorLaws.{HasSources, block_sources}
+use Rattle.ir_verifier.proofs.ReferenceLaws.{number_decides, has_made}
+use Rattle.ir_verifier.proofs.PredecessorLaws.{of_one, to_one, HasSources, block_sources}
 use Rattle.ir_verifier.proofs.ValueLaws.{of_same, to_same, Knows, IsFine, knows_label, one_value, some_value, More, not_listed, keeps, knows_new, knew, more_fine}
 
 all_pass : {A : Type 0} (test : A → Bool) (xs : List A) → ((x : A) → Has xs x → test x ≡ true) → list_all test xs ≡ true
@@ -36,18 +36,6 @@ listed_decides : (ns more : List ℕ) → Decides (are_listed ns more) ((n : ℕ
 listed_decides ns more =
     (λ e n h. (number_decides n ns).0 (passes (λ (k : ℕ). list_any (nat_eq k) ns) more n e h),
     λ all. all_pass (λ (k : ℕ). list_any (nat_eq k) ns) more (λ n h. (number_decides n ns).1 (all n h)))
-
-of_one : (ns : List ℕ) (m n : ℕ) → Has (with_number ns m) n → Has ns n ⊎ (m ≡ n)
-of_one ns m n h = of_part (in_numbers (m ∷ []) ns n h)
-  where
-    of_part : Has ns n ⊎ Has (m ∷ []) n → Has ns n ⊎ (m ≡ n)
-    of_part (inl g) = inl g
-    of_part (inr (inl e)) = inr e
-    of_part (inr (inr g)) = absurd g
-
-to_one : (ns : List ℕ) (m n : ℕ) → Has ns n ⊎ (m ≡ n) → Has (with_number ns m) n
-to_one ns m n (inl h) = numbers_in (m ∷ []) ns n (inl h)
-to_one ns m n (inr e) = numbers_in (m ∷ []) ns n (inr (inl e))
 
 module _ (defs : List TypeDef) (row : List ℕ) (t : IrType) where
   abbrev mean : Pair → Meaning

@@ -32,7 +32,8 @@ set_there (x ∷ xs) zero (suc j) v other = refl
 set_there (x ∷ xs) (suc k) zero v other = refl
 set_there (x ∷ xs) (suc k) (suc j) v other = set_there xs k j v (λ e. other (ap suc e))
 
-of_one : (ns : List ℕ) (m n : ℕ) → Has (with_number ns m) n → Has ns n ⊎ (m ≡ n)
+-- one more number in a set
+pub of_one : (ns : List ℕ) (m n : ℕ) → Has (with_number ns m) n → Has ns n ⊎ (m ≡ n)
 of_one ns m n h = of_part (in_numbers (m ∷ []) ns n h)
   where
     of_part : Has ns n ⊎ Has (m ∷ []) n → Has ns n ⊎ (m ≡ n)
@@ -40,7 +41,7 @@ of_one ns m n h = of_part (in_numbers (m ∷ []) ns n h)
     of_part (inr (inl e)) = inr e
     of_part (inr (inr g)) = absurd g
 
-to_one : (ns : List ℕ) (m n : ℕ) → Has ns n ⊎ (m ≡ n) → Has (with_number ns m) n
+pub to_one : (ns : List ℕ) (m n : ℕ) → Has ns n ⊎ (m ≡ n) → Has (with_number ns m) n
 to_one ns m n (inl h) = numbers_in (m ∷ []) ns n (inl h)
 to_one ns m n (inr e) = numbers_in (m ∷ []) ns n (inr (inl e))
 

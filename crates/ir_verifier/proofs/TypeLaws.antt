@@ -23,7 +23,7 @@ use Rattle.ir_core.proofs.Lists.{Has, has_part, contains}
 use Rattle.ir_verifier.specs.Faults.{with_numbers, numbers_of}
 use Rattle.ir_verifier.specs.CallFaults.{same_kind}
 use Rattle.ir_verifier.specs.TypeFaults.{is_integer, is_scalar, is_result_type, number_if, param_of, makes, result_of, results_of, locals_of, registers_of, numbers_in, has_type, field_at, inner, next, walks_from, walks_into, walks}
-use Rattle.ir_verifier.proofs.Decided.{always, never}
+use Rattle.ir_verifier.proofs.Decided.{always, never, false_is_not_true}
 use Rattle.ir_verifier.proofs.Faulty.{has}
 use Rattle.ir_verifier.proofs.KindLaws.{of_kind, kind_of_scalar, kind_of_result}
 use Rattle.ir_verifier.proofs.ReferenceLaws.{number_decides, in_numbers, numbers_in as numbers_has, has_made}
@@ -80,10 +80,7 @@ scalar_of_integer t i = subst IsScalar (sym i.1) tt
 
 -- the second test is made where the first is met
 pub and_then : {P Q : Type 0} (s t : Bool) → Decides s P → (P → Decides t Q) → Decides (s && t) (P × Q)
-and_then false t d g = never (λ h. false_is_not (d.1 h.0))
-  where
-    false_is_not : false ≡ true → ⊥
-    false_is_not e = cc
+and_then false t d g = never (λ h. false_is_not_true (d.1 h.0))
 and_then true t d g = let p = d.0 refl in (λ e. (p, (g p).0 e), λ h. (g p).1 h.1)
 
 -- ---- the parameters and registers of a type
@@ -191,7 +188,7 @@ of_inner i (IrType-F.Struct types) u e = by_kind (same_kind i.ty (Int W32)) refl
     by_kind false t g = absurd (let clash : None ≡ Some u = g in cc)
 of_inner i (IrType-F.Named x) u e = absurd (let clash : None ≡ Some u = e in cc)
 
-none_at : (k : ℕ) (u : IrType) → slice_get [] k ≡ Some u → ⊥
+pub none_at : (k : ℕ) (u : IrType) → slice_get [] k ≡ Some u → ⊥
 none_at k u e = let clash : None ≡ Some u = e in cc
 
 to_inner : (i : Index) (l : IrType-F IrType) (u : IrType) → Into l i u → inner i l ≡ Some u

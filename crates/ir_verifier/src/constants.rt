@@ -161,7 +161,7 @@ fn is_pointer(t: &IrType) -> bool
     matches!(t, IrType::Ptr)
 }
 
-fn fits_type(t: &IrType, number: i128) -> bool
+pub fn fits_type(t: &IrType, number: i128) -> bool
     ensures { result ≡ fits_type t.now number }
 {
     match t {

@@ -18,6 +18,8 @@ mod positions;
 mod predecessors;
 mod references;
 mod registers;
+#[cfg(test)]
+mod row_tests;
 mod scope;
 mod symbols;
 mod target;

@@ -45,7 +45,7 @@ pub fn first_break(alloc: Global, m: &Module, f: &Func) -> Result<Option<Place>,
     first_fault(alloc, m, &predecessors, f)
 }
 
-fn first_fault(
+pub fn first_fault(
     alloc: Global,
     m: &Module,
     predecessors: &Predecessors,
