@@ -42,7 +42,7 @@ value_decides : (t : IrType) (v : Operand) → Decides (value_fits t v) (Operand
 value_decides t (operands.Local x) = always
 value_decides t (operands.Const c) = const_decides t c
 
-operand_decides : (a : TypedOperand) → Decides (operand_fits a) (OperandFits a)
+pub operand_decides : (a : TypedOperand) → Decides (operand_fits a) (OperandFits a)
 operand_decides a = value_decides a.ty a.value
 
 count_of_decides : (p : Place) (r : Option LocalId) (op : Op) → Decides (op_count_fits op) (CountFits (Does (record { place = p; result = r; op = op })))

@@ -9,3 +9,11 @@ mod ReferencesFound
 mod NameLaws
 mod KindLaws
 mod CallLaws
+mod TypeLaws
+mod TypesFound
+mod InnerTypes
+mod OffsetLaws
+mod PredecessorLaws
+mod ValueLaws
+mod PhiLaws
+mod Measured

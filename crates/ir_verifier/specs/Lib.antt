@@ -1,2 +1,5 @@
 pub mod Faults
 pub mod CallFaults
+pub mod TypeFaults
+pub mod PhiFaults
+pub mod Forms

@@ -75,7 +75,7 @@ fn word_value(t: &IrType, value: &Operand) -> Option<u32>
 }
 
 /// The word of a width that is equal to a number modulo two to the width.
-fn word_of(w: Width, number: i128) -> u32
+pub fn word_of(w: Width, number: i128) -> u32
     ensures { result ≡ word_of (modulus w) number }
 {
     number.rem_euclid(words(w)) as u32

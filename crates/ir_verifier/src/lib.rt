@@ -8,9 +8,18 @@ mod cases;
 mod constants;
 mod entry;
 mod kinds;
+mod meanings;
 mod names;
+mod offsets;
+mod phis;
 mod positions;
+mod predecessors;
 mod references;
+mod registers;
+#[cfg(test)]
+mod row_tests;
 mod scope;
 #[cfg(test)]
 mod tests;
+mod types;
+mod walk;

@@ -68,7 +68,7 @@ impl<'a> Scope<'a> {
     }
 }
 
-fn label_numbers(alloc: Global, blocks: &[Block]) -> Result<Numbers, NoMemory>
+pub fn label_numbers(alloc: Global, blocks: &[Block]) -> Result<Numbers, NoMemory>
     ensures { IfOk result (λ ns. ns ≡ numbers_of (map label_number blocks.now)) }
 {
     let mut numbers = Numbers::new(alloc);

@@ -51,6 +51,12 @@ impl Numbers {
         self.set.get_index(at).copied()
     }
 
+    pub fn as_slice(&self) -> &[u32]
+        ensures { result.now ≡ self.now }
+    {
+        self.set.as_slice()
+    }
+
     /// Adds a number, and tells whether it was new.
     pub fn add(&mut self, n: u32) -> Result<bool, NoMemory>
         ensures added { IfOk result (λ new. new ≡ not (list_any (nat_eq n) self.old)) }
