@@ -5,3 +5,4 @@ pub mod Target
 pub mod SymbolFaults
 pub mod TypeFaults
 pub mod Cycles
+pub mod AlignFaults

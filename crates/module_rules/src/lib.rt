@@ -2,11 +2,13 @@
 //! integers fit their types (docs/RULES.md).
 #![tactic(auto)]
 
+pub mod alignments;
 mod components;
 mod cycles;
 mod first;
 pub mod has_main;
 mod integers;
+mod measure;
 mod numbers;
 mod struct_names;
 pub mod symbols;
