@@ -25,18 +25,18 @@ use Rattle.ir_core.specs.Stands.{Does, Ends, steps, block_steps, is_up_to, symbo
 use Rattle.ir_core.specs.ValidModule.{Introduced, introduced, introduced_globals, introduced_funcs, BreaksSymbolTwice}
 use Rattle.ir_core.specs.ValidOps.{IsScalar, IsResultType, StepAgrees, OperandAgrees, IsDefinedAs, IsExternal, IsDeclaredAs, CallsWell, BreaksTypes, BreaksCalls}
 use Rattle.ir_core.proofs.Lists.{Has, has_left, has_part, contains, at_has, has_at}
-use Rattle.ir_verifier.specs.First.{earliest, IsFound}
+use Rattle.module_rules.specs.First.{earliest, IsFound}
 use Rattle.ir_verifier.specs.CallFaults.{same_kind, same_kinds, func_number, declared_number, func_numbers, declared_numbers, callee, is_word, is_void, is_one_word, is_none, is_putchar, is_getchar, is_exit, fits_external, fits_func, fits_callee, op_calls_well, call_fault, block_call_faults, call_faults}
 use Rattle.std.specs.Bool.{Decides}
 use Rattle.std.proofs.lemmas.Bool.Decides.{Decides-not}
-use Rattle.ir_verifier.proofs.Decided.{always, false_is_not_true}
-use Rattle.ir_verifier.proofs.Faulty.{has}
-use Rattle.ir_verifier.proofs.At.{found_in}
+use Rattle.module_rules.proofs.Decided.{always, false_is_not_true}
+use Rattle.module_rules.proofs.Faulty.{has}
+use Rattle.module_rules.proofs.At.{found_in}
 use Rattle.ir_verifier.proofs.PlainOperands.{all_of}
-use Rattle.ir_verifier.proofs.Earliest.{up_to_total}
+use Rattle.module_rules.proofs.Earliest.{up_to_total}
 use Rattle.ir_verifier.proofs.KindLaws.{of_kind, of_kinds, kind_of_scalar, kind_of_result, two_true}
-use Rattle.ir_verifier.proofs.ReferenceLaws.{number_decides, in_numbers, numbers_in, has_mapped, mapped_has, has_made, symbol_of}
-use Rattle.ir_verifier.proofs.Distinct.{IsDistinct, distinct_numbers, position_is, no_position, map_at, at_in_next, at_in_first}
+use Rattle.module_rules.proofs.Sets.{number_decides, in_numbers, numbers_in, has_mapped, mapped_has, has_made, symbol_of}
+use Rattle.module_rules.proofs.Distinct.{IsDistinct, distinct_numbers, position_is, no_position, map_at, at_in_next, at_in_first}
 
 -- ---- kinds of the types of arguments
 

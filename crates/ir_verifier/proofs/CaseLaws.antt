@@ -13,14 +13,14 @@ use Rattle.ir_core.specs.declared.func.Func.{Func}
 use Rattle.ir_core.specs.ValidConsts.{Meaning, IsWord, meaning}
 use Rattle.ir_core.specs.ValidOps.{IsCaseWord, HasGoodCases, BreaksCases}
 use Rattle.ir_core.proofs.Lists.{Has, has_left, has_right}
-use Rattle.ir_verifier.specs.First.{earliest, IsFound}
+use Rattle.module_rules.specs.First.{earliest, IsFound}
 use Rattle.ir_verifier.specs.Faults.{word_value, is_new_word, with_word, are_good_cases, has_good_cases, case_faults}
 use Rattle.std.specs.Bool.{Decides}
 use Rattle.std.proofs.lemmas.Bool.Decides.{Decides-not}
-use Rattle.ir_verifier.proofs.Decided.{always, never}
-use Rattle.ir_verifier.proofs.Faulty.{has_in}
+use Rattle.module_rules.proofs.Decided.{always, never}
+use Rattle.module_rules.proofs.Faulty.{has_in}
 use Rattle.ir_verifier.proofs.CaseWords.{Agree, agrees}
-use Rattle.ir_verifier.proofs.At.{found_at}
+use Rattle.module_rules.proofs.At.{found_at}
 
 module _ (defs : List TypeDef) where
   abbrev mean : SwitchCase → Meaning

@@ -1,10 +1,7 @@
 -- The places at which the rule of constants is broken.
-use Rattle.std.proofs.Common.{◌≡◌, refl, sym, subst, false, not, ℤ, pos, negsuc, List, Option, Some, None, All, arith}
+use Rattle.std.proofs.Common.{sym, subst, not, List, Option, Some, None, All}
 use Rattle.std.specs.List.{list_all}
-use Rattle.std.proofs.lemmas.Bool.Decides.{nat_tests}
-use Rattle.oi_base.specs.declared.words.Width.{Width}
-use Rattle.oi_base.specs.declared.words.Width.TheVariants.{W1, W8, W16, W32}
-use Rattle.ir_core.specs.declared.ty.IrType.{IrType, Void, Int, Ptr, Array', Struct', Named}
+use Rattle.ir_core.specs.declared.ty.IrType.{IrType, Int, Array', Struct'}
 use Rattle.ir_core.specs.declared.constant.Const.{Const}
 use Rattle.ir_core.specs.declared.constant.Const as consts
 use Rattle.ir_core.specs.declared.constant.TypedCount.{TypedCount}
@@ -17,52 +14,16 @@ use Rattle.ir_core.specs.declared.op.Op.TheVariants.{Bin, Icmp, Select, Cast, Al
 use Rattle.ir_core.specs.declared.func.Func.{Func}
 use Rattle.oi_base.specs.declared.ids.Place.{Place}
 use Rattle.ir_core.specs.Stands.{Step, Does, Ends, steps, place_of, op_operands, end_operands, operands_of}
-use Rattle.ir_core.specs.ValidConsts.{Fits, FitsType}
+use Rattle.ir_core.specs.ValidConsts.{FitsType}
 use Rattle.ir_core.specs.ValidOps.{ConstFits, OperandFits, CountFits, BreaksConstants}
-use Rattle.ir_verifier.specs.First.{earliest, IsFound}
-use Rattle.ir_verifier.specs.Faults.{fits, fits_type, is_bit, is_pointer, count_fits, const_fits, value_fits, operand_fits, op_count_fits, step_fits, constant_faults}
+use Rattle.module_rules.specs.First.{earliest, IsFound}
+use Rattle.module_rules.specs.Faults.{count_fits}
+use Rattle.ir_verifier.specs.Faults.{const_fits, value_fits, operand_fits, op_count_fits, step_fits, constant_faults}
 use Rattle.std.specs.Bool.{Decides}
 use Rattle.std.proofs.lemmas.Bool.Decides.{Decides-and, Decides-not}
-use Rattle.ir_verifier.proofs.Decided.{always, never, each}
-use Rattle.ir_verifier.proofs.At.{found_at, step_places}
-
-fits_decides : (w : Width) (n : ℤ) → Decides (fits w n) (Fits w n)
-fits_decides w (pos a) = (λ e. grind (arith, nat_tests), λ h. grind (arith, nat_tests))
-fits_decides w (negsuc a) = (λ e. grind (arith, nat_tests), λ h. grind (arith, nat_tests))
-
--- a type that isn't an integer
-not_integer : (t : IrType) (n : ℤ) → ((w : Width) → t ≡ Int w → ⊥) → Decides false (FitsType t n)
-not_integer t n other = never (λ (h : FitsType t n). other h.0 h.1)
-
-type_decides : (t : IrType) (n : ℤ) → Decides (fits_type t n) (FitsType t n)
-type_decides (Int w) n = (λ e. (w, refl, (fits_decides w n).0 e), λ h. (fits_decides w n).1 (let same : h.0 ≡ w = let e : Int w ≡ Int h.0 = h.1 in cc in subst (λ v. Fits v n) same h.2))
-type_decides Void n = not_integer Void n (λ w e. cc)
-type_decides Ptr n = not_integer Ptr n (λ w e. cc)
-type_decides (Array' k m ts) n = not_integer (Array' k m ts) n (λ w e. cc)
-type_decides (Struct' m ts) n = not_integer (Struct' m ts) n (λ w e. cc)
-type_decides (Named x) n = not_integer (Named x) n (λ w e. cc)
-
-count_decides : (n : TypedCount) → Decides (count_fits n) (FitsType n.ty n.count)
-count_decides n = type_decides n.ty n.count
-
-bit_decides : (t : IrType) → Decides (is_bit t) (t ≡ Int W1)
-bit_decides (Int W1) = (λ e. refl, λ h. refl)
-bit_decides (Int W8) = never (λ h. cc)
-bit_decides (Int W16) = never (λ h. cc)
-bit_decides (Int W32) = never (λ h. cc)
-bit_decides Void = never (λ h. cc)
-bit_decides Ptr = never (λ h. cc)
-bit_decides (Array' k m ts) = never (λ h. cc)
-bit_decides (Struct' m ts) = never (λ h. cc)
-bit_decides (Named x) = never (λ h. cc)
-
-pointer_decides : (t : IrType) → Decides (is_pointer t) (t ≡ Ptr)
-pointer_decides Ptr = (λ e. refl, λ h. refl)
-pointer_decides (Int w) = never (λ h. cc)
-pointer_decides Void = never (λ h. cc)
-pointer_decides (Array' k m ts) = never (λ h. cc)
-pointer_decides (Struct' m ts) = never (λ h. cc)
-pointer_decides (Named x) = never (λ h. cc)
+use Rattle.module_rules.proofs.Decided.{always, each}
+use Rattle.module_rules.proofs.IntegerLaws.{type_decides, count_decides, bit_decides, pointer_decides}
+use Rattle.module_rules.proofs.At.{found_at, step_places}
 
 const_decides : (t : IrType) (c : Const) → Decides (const_fits t c) (ConstFits c t)
 const_decides t (consts.Int n) = type_decides t n
@@ -81,7 +42,7 @@ value_decides : (t : IrType) (v : Operand) → Decides (value_fits t v) (Operand
 value_decides t (operands.Local x) = always
 value_decides t (operands.Const c) = const_decides t c
 
-operand_decides : (a : TypedOperand) → Decides (operand_fits a) (OperandFits a)
+pub operand_decides : (a : TypedOperand) → Decides (operand_fits a) (OperandFits a)
 operand_decides a = value_decides a.ty a.value
 
 count_of_decides : (p : Place) (r : Option LocalId) (op : Op) → Decides (op_count_fits op) (CountFits (Does (record { place = p; result = r; op = op })))

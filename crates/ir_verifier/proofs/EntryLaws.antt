@@ -7,10 +7,10 @@ use Rattle.ir_core.specs.declared.func.Func.{Func}
 use Rattle.ir_core.specs.Parts.{targets}
 use Rattle.ir_core.specs.ValidFunc.{BreaksEntry}
 use Rattle.ir_core.proofs.Lists.{Has, contains}
-use Rattle.ir_verifier.specs.First.{earliest, IsFound}
+use Rattle.module_rules.specs.First.{earliest, IsFound}
 use Rattle.ir_verifier.specs.Faults.{names_entry, entry_fault, entry_faults}
-use Rattle.ir_verifier.proofs.Earliest.{found}
-use Rattle.ir_verifier.proofs.Faulty.{has, named_has, has_named, has_fault, fault_has}
+use Rattle.module_rules.proofs.Earliest.{found}
+use Rattle.module_rules.proofs.Faulty.{has, named_has, has_named, has_fault, fault_has}
 
 module _ (f : Func) where
   abbrev faults_of : Option Block → List Place

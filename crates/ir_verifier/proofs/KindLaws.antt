@@ -7,7 +7,7 @@ use Rattle.ir_core.specs.declared.op.TypedOperand.{TypedOperand}
 use Rattle.ir_core.specs.declared.func.Param.{Param}
 use Rattle.ir_core.specs.ValidOps.{IsScalar, IsResultType}
 use Rattle.ir_verifier.specs.CallFaults.{same_width, same_kind, same_kinds}
-use Rattle.ir_verifier.proofs.Decided.{false_is_not_true}
+use Rattle.module_rules.proofs.Decided.{false_is_not_true}
 
 same_widths : (v w : Width) → same_width v w ≡ true → v ≡ w
 same_widths W1 W1 e = refl

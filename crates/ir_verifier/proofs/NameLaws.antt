@@ -6,12 +6,13 @@ use Rattle.ir_core.specs.declared.op.LocalId.{LocalId}
 use Rattle.ir_core.specs.declared.func.Func.{Func}
 use Rattle.ir_core.specs.ValidFunc.{LocalAt, locals_at, BreaksNames}
 use Rattle.ir_core.proofs.Lists.{Has, has_left, has_right}
-use Rattle.ir_verifier.specs.First.{earlier, earliest, IsFound}
-use Rattle.ir_verifier.specs.Faults.{place_if, with_number, Introduced, nothing_yet, with_local, with_locals}
-use Rattle.ir_verifier.proofs.Faulty.{has_in}
-use Rattle.ir_verifier.proofs.Earliest.{found}
+use Rattle.module_rules.specs.First.{earlier, earliest, IsFound}
+use Rattle.module_rules.specs.Faults.{place_if, with_number}
+use Rattle.ir_verifier.specs.Faults.{Introduced, nothing_yet, with_local, with_locals}
+use Rattle.module_rules.proofs.Faulty.{has_in}
+use Rattle.module_rules.proofs.Earliest.{found}
 use Rattle.std.proofs.lemmas.List.Sums.{fold-append}
-use Rattle.ir_verifier.proofs.ReferenceLaws.{number_decides, in_numbers, numbers_in}
+use Rattle.module_rules.proofs.Sets.{number_decides, with_one, one_with, local_of}
 
 -- the places of names that are among these or stand before them
 abbrev again : List ℕ → List LocalAt → List Place
@@ -31,17 +32,6 @@ Twice names ls p =
     (j : ℕ) × (b : LocalAt) × (slice_get ls j ≡ Some b) × (b.place ≡ p)
     × (Has names b.name.0 ⊎ ((i : ℕ) × (a : LocalAt) × (i < j) × (slice_get ls i ≡ Some a) × (a.name ≡ b.name)))
 
-in_one : (names : List ℕ) (m n : ℕ) → Has (with_number names m) n → Has names n ⊎ (m ≡ n)
-in_one names m n h = of_part (in_numbers (m ∷ []) names n h)
-  where
-    of_part : Has names n ⊎ Has (m ∷ []) n → Has names n ⊎ (m ≡ n)
-    of_part (inl g) = inl g
-    of_part (inr (inl e)) = inr e
-    of_part (inr (inr g)) = absurd g
-
-local_of : (x y : LocalId) → x.0 ≡ y.0 → x ≡ y
-local_of x y e = ap (λ (n : ℕ). record { 0 = n }) e
-
 sound : (ls : List LocalAt) (names : List ℕ) (p : Place) → Has (again names ls) p → Twice names ls p
 sound [] names p h = absurd h
 sound (l ∷ ls) names p h = by_part (has_in (place_if (list_any (nat_eq l.name.0) names) l.place) (again (with_number names l.name.0) ls) p h) (sound ls (with_number names l.name.0) p)
@@ -59,7 +49,7 @@ sound (l ∷ ls) names p h = by_part (has_in (place_if (list_any (nat_eq l.name.
         of_one (inr e) = inr (0, l, omega arith, refl, local_of l.name w.1.name e)
 
         reason : Has (with_number names l.name.0) w.1.name.0 ⊎ ((i : ℕ) × (a : LocalAt) × (i < w.0) × (slice_get ls i ≡ Some a) × (a.name ≡ w.1.name)) → Has names w.1.name.0 ⊎ ((i : ℕ) × (a : LocalAt) × (i < suc w.0) × (slice_get (l ∷ ls) i ≡ Some a) × (a.name ≡ w.1.name))
-        reason (inl g) = of_one (in_one names l.name.0 w.1.name.0 g)
+        reason (inl g) = of_one (with_one names l.name.0 w.1.name.0 g)
         reason (inr g) = inr (suc g.0, g.1, omega (arith, g.2), g.3, g.4)
 
     by_part : Has (place_if (list_any (nat_eq l.name.0) names) l.place) p ⊎ Has (again (with_number names l.name.0) ls) p → (Has (again (with_number names l.name.0) ls) p → Twice (with_number names l.name.0) ls p) → Twice names (l ∷ ls) p
@@ -85,11 +75,11 @@ complete (l ∷ ls) names p w = by_index w.0 w.2 w.4 (complete ls (with_number n
     by_index (suc j) at b rest = has_right (place_if (list_any (nat_eq l.name.0) names) l.place) (again (with_number names l.name.0) ls) p (rest (j, w.1, at, w.3, reason b))
       where
         of_place : (i : ℕ) (a : LocalAt) → i < suc j → slice_get (l ∷ ls) i ≡ Some a → a.name ≡ w.1.name → Has (with_number names l.name.0) w.1.name.0 ⊎ ((k : ℕ) × (c : LocalAt) × (k < j) × (slice_get ls k ≡ Some c) × (c.name ≡ w.1.name))
-        of_place zero a lt e same = inl (numbers_in (l.name.0 ∷ []) names w.1.name.0 (inr (inl (let first : Some l ≡ Some a = e in let one : l ≡ a = cc in ap (λ (b : LocalAt). b.name.0) one ∙ ap (λ (x : LocalId). x.0) same))))
+        of_place zero a lt e same = inl (one_with names l.name.0 w.1.name.0 (inr ((let first : Some l ≡ Some a = e in let one : l ≡ a = cc in ap (λ (b : LocalAt). b.name.0) one ∙ ap (λ (x : LocalId). x.0) same))))
         of_place (suc i) a lt e same = inr (i, a, omega (arith, lt), e, same)
 
         reason : Before (suc j) → Has (with_number names l.name.0) w.1.name.0 ⊎ ((k : ℕ) × (c : LocalAt) × (k < j) × (slice_get ls k ≡ Some c) × (c.name ≡ w.1.name))
-        reason (inl g) = inl (numbers_in (l.name.0 ∷ []) names w.1.name.0 (inl g))
+        reason (inl g) = inl (one_with names l.name.0 w.1.name.0 (inl g))
         reason (inr g) = of_place g.0 g.1 g.2 g.3 g.4
 
 pub names_found : (f : Func) → IsFound (BreaksNames f) (with_locals nothing_yet (locals_at f)).first

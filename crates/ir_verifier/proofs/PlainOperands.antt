@@ -17,7 +17,8 @@ use Rattle.ir_core.specs.Proper.{IsValue, IsProperFunc}
 use Rattle.ir_core.specs.Parts.{op_values, end_values, block_values, func_values, operand_consts, func_consts}
 use Rattle.ir_core.specs.Stands.{Step, Does, Ends, steps, block_steps, op_operands, end_operands, operands_of, typed}
 use Rattle.ir_core.proofs.Lists.{Has, has_left, has_right, has_part, contains}
-use Rattle.ir_verifier.proofs.ReferenceLaws.{has_made, IsPlain}
+use Rattle.module_rules.proofs.Sets.{has_made}
+use Rattle.ir_verifier.proofs.ReferenceLaws.{IsPlain}
 
 abbrev value : TypedOperand → Operand
 value a = a.value

@@ -8,14 +8,15 @@ use Rattle.ir_core.specs.declared.func.Block.{Block}
 use Rattle.ir_core.specs.declared.func.Func.{Func}
 use Rattle.ir_core.specs.ValidFunc.{IsPhi, IsAlloca, IsLatePhi, BreaksPositions}
 use Rattle.ir_core.proofs.Lists.{Has, has_left, has_right}
-use Rattle.ir_verifier.specs.First.{earlier, earliest, IsFound}
-use Rattle.ir_verifier.specs.Faults.{place_if, is_phi, is_alloca, is_misplaced, code_faults, position_fault, position_faults_from, position_faults}
+use Rattle.module_rules.specs.First.{earlier, earliest, IsFound}
+use Rattle.module_rules.specs.Faults.{place_if}
+use Rattle.ir_verifier.specs.Faults.{is_phi, is_alloca, is_misplaced, code_faults, position_fault, position_faults_from, position_faults}
 use Rattle.std.specs.Bool.{Decides}
 use Rattle.std.proofs.lemmas.Bool.Decides.{Decides-not}
-use Rattle.ir_verifier.proofs.Decided.{always, never}
-use Rattle.ir_verifier.proofs.Faulty.{has_in}
-use Rattle.ir_verifier.proofs.Earliest.{found}
-use Rattle.ir_verifier.proofs.Folds.{fold_next, cut}
+use Rattle.module_rules.proofs.Decided.{always, never}
+use Rattle.module_rules.proofs.Faulty.{has_in}
+use Rattle.module_rules.proofs.Earliest.{found}
+use Rattle.module_rules.proofs.Folds.{fold_next, cut}
 
 phi_decides : (op : Op) → Decides (is_phi op) (IsPhi op)
 phi_decides (Phi t es) = always

@@ -7,9 +7,9 @@ use Rattle.ir_core.specs.declared.func.Func.{Func}
 use Rattle.ir_core.specs.Proper.{IsProperFunc}
 use Rattle.ir_core.specs.Stands.{Step, Does, Ends, steps, place_of, operands_of, labels_of}
 use Rattle.ir_core.specs.ValidFunc.{RefersWrongly, BreaksReferences}
-use Rattle.ir_verifier.specs.First.{earliest, IsFound}
+use Rattle.module_rules.specs.First.{earliest, IsFound}
 use Rattle.ir_verifier.specs.Faults.{is_known, is_label, step_is_known, scope_of, reference_faults, Scope}
-use Rattle.ir_verifier.proofs.At.{found_in, step_places}
+use Rattle.module_rules.proofs.At.{found_in, step_places}
 use Rattle.ir_verifier.proofs.ReferenceLaws.{wrong, right}
 use Rattle.ir_verifier.proofs.PlainOperands.{plain_operands}
 

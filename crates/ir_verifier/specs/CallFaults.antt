@@ -17,7 +17,7 @@ use Rattle.ir_core.specs.declared.func.Block.{Block}
 use Rattle.ir_core.specs.declared.func.Func.{Func}
 use Rattle.ir_core.specs.declared.func.Param.{Param}
 use Rattle.ir_core.specs.Stands.{symbol_text}
-use Rattle.ir_verifier.specs.Faults.{place_if, numbers_of}
+use Rattle.module_rules.specs.Faults.{place_if, numbers_of}
 
 -- ---- kinds of types
 

@@ -1,14 +1,11 @@
 -- For each rule of functions, the places at which it is broken, as lists in text order.
-use Rattle.std.specs.Prelude.{ℕ, ◌/◌, ◌==◌, nat_eq, nat_lt, ℤ, pos, negsuc, Bool, true, false, not, ◌&&◌, ◌||◌, if◌then◌else◌, List, [], ◌∷◌, ◌++◌, map, fold, Option, Some, None, slice_get}
+use Rattle.std.specs.Prelude.{ℕ, nat_eq, ℤ, Bool, true, false, not, ◌&&◌, ◌||◌, List, [], ◌∷◌, ◌++◌, map, fold, Option, Some, None, slice_get}
 use Rattle.std.specs.List.{flat_map, list_any, list_all}
 use Rattle.oi_base.specs.declared.ids.Place.{Place}
-use Rattle.oi_base.specs.declared.words.Width.{Width}
-use Rattle.oi_base.specs.declared.words.Width.TheVariants.{W1}
 use Rattle.oi_base.specs.Words.{modulus, word_of}
-use Rattle.ir_core.specs.declared.ty.IrType.{IrType, Int, Ptr}
+use Rattle.ir_core.specs.declared.ty.IrType.{IrType, Int}
 use Rattle.ir_core.specs.declared.constant.Const.{Const}
 use Rattle.ir_core.specs.declared.constant.Const as consts
-use Rattle.ir_core.specs.declared.constant.TypedCount.{TypedCount}
 use Rattle.ir_core.specs.declared.op.LocalId.{LocalId}
 use Rattle.ir_core.specs.declared.op.Operand.{Operand}
 use Rattle.ir_core.specs.declared.op.Operand.TheVariants as operands
@@ -23,21 +20,14 @@ use Rattle.ir_core.specs.declared.func.Instr.{Instr}
 use Rattle.ir_core.specs.declared.func.Block.{Block}
 use Rattle.ir_core.specs.declared.func.Func.{Func}
 use Rattle.ir_core.specs.declared.func.Param.{Param}
-use Rattle.ir_core.specs.declared.module.GlobalVar.{GlobalVar}
 use Rattle.ir_core.specs.declared.module.Module.{Module}
 use Rattle.ir_core.specs.Parts.{targets, op_labels}
 use Rattle.ir_core.specs.ValidFunc.{LocalAt}
-use Rattle.ir_verifier.specs.First.{earliest}
+use Rattle.module_rules.specs.Faults.{place_if, is_local, step_faults, fits_type, is_bit, is_pointer, count_fits, with_number, with_numbers, numbers_of, global_numbers}
+use Rattle.module_rules.specs.First.{earliest}
 use Rattle.ir_core.specs.Stands.{Step, Does, Ends, op_operands, end_operands}
 
--- a place where something is so
-abbrev pub place_if : Bool → Place → List Place
-place_if t p = if t then (p ∷ []) else []
-
 -- ---- the entry block
-
-abbrev pub is_local : LocalId → LocalId → Bool
-is_local x y = x.0 == y.0
 
 abbrev pub names_entry : LocalId → Block → Bool
 names_entry entry b = list_any (is_local entry) (targets b.end)
@@ -52,36 +42,7 @@ entry_faults f = of_entry (slice_get f.blocks 0)
     of_entry None = []
     of_entry (Some b) = flat_map (entry_fault b.label) f.blocks
 
--- ---- instructions and terminators
-
--- where a test finds instructions and the terminator of a block
-abbrev pub block_faults : (Step → Bool) → Block → List Place
-block_faults bad b = flat_map (λ (i : Instr). place_if (bad (Does i)) i.place) b.code ++ place_if (bad (Ends b)) b.end_place
-
-abbrev pub step_faults : (Step → Bool) → Func → List Place
-step_faults bad f = flat_map (block_faults bad) f.blocks
-
 -- ---- constants
-
--- an integer of a width w lies in -2^(w-1) to 2^w - 1
-abbrev pub fits : Width → ℤ → Bool
-fits w (pos a) = nat_lt a (modulus w)
-fits w (negsuc a) = nat_lt a (modulus w / 2)
-
-abbrev pub fits_type : IrType → ℤ → Bool
-fits_type (Int w) n = fits w n
-fits_type _ n = false
-
-abbrev pub is_bit : IrType → Bool
-is_bit (Int W1) = true
-is_bit _ = false
-
-abbrev pub is_pointer : IrType → Bool
-is_pointer Ptr = true
-is_pointer _ = false
-
-abbrev pub count_fits : TypedCount → Bool
-count_fits n = fits_type n.ty n.count
 
 abbrev pub const_fits : IrType → Const → Bool
 const_fits t (consts.Int n) = fits_type t n
@@ -115,10 +76,6 @@ abbrev pub constant_faults : Func → List Place
 constant_faults f = step_faults (λ (s : Step). not (step_fits s)) f
 
 -- ---- switches
-
--- a set of numbers, in the order in which they were added, with one more
-abbrev pub with_number : List ℕ → ℕ → List ℕ
-with_number ns n = if list_any (nat_eq n) ns then ns else ns ++ n ∷ []
 
 -- the word that a constant is
 abbrev pub number_word : IrType → ℤ → Option ℕ
@@ -198,13 +155,6 @@ position_faults f = position_faults_from true f.blocks
 
 -- ---- references
 
--- a set of numbers with more
-abbrev pub with_numbers : List ℕ → List ℕ → List ℕ
-with_numbers ns more = fold with_number ns more
-
-abbrev pub numbers_of : List ℕ → List ℕ
-numbers_of ns = with_numbers [] ns
-
 abbrev pub param_number : Param → ℕ
 param_number q = q.name.0
 
@@ -227,12 +177,6 @@ label_number b = b.label.0
 
 abbrev pub label_numbers : Func → List ℕ
 label_numbers f = numbers_of (map label_number f.blocks)
-
-abbrev pub global_number : GlobalVar → ℕ
-global_number g = g.name.0
-
-abbrev pub global_numbers : Module → List ℕ
-global_numbers m = numbers_of (map global_number m.globals)
 
 -- what may be named
 pub record Scope : Type 0 where

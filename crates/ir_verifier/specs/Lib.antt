@@ -1,6 +1,5 @@
-pub mod First
 pub mod Faults
-pub mod HasMain
 pub mod CallFaults
-pub mod Target
-pub mod SymbolFaults
+pub mod TypeFaults
+pub mod PhiFaults
+pub mod Forms

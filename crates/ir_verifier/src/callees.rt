@@ -2,11 +2,11 @@ ghost use Rattle.std.specs.Prelude.{◌≡◌, map, nat_eq, IfOk, length};
 ghost use Rattle.std.specs.List.{list_any};
 ghost use Rattle.std.specs.Option.{option_copied};
 ghost use Rattle.ir_core.specs.Stands.{symbol_text};
-ghost use Rattle.ir_verifier.specs.Faults.{numbers_of};
+ghost use Rattle.module_rules.specs.Faults.{numbers_of};
 ghost use Rattle.ir_verifier.specs.CallFaults.{func_number, declared_number, declared_numbers, callee};
 
-use crate::numbers::Numbers;
 use ir_core::{Declaration, Func, Module, SymId};
+use module_rules::Numbers;
 use oi_base::NoMemory;
 use std::alloc::Global;
 use std::marker::Model;

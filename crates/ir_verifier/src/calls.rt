@@ -2,13 +2,13 @@ ghost use Rattle.std.specs.Prelude.{◌≡◌, None};
 ghost use Rattle.oi_base.specs.declared.ids.Place as places;
 ghost use Rattle.ir_core.specs.ValidModule.{BreaksSymbolTwice};
 ghost use Rattle.ir_core.specs.ValidOps.{BreaksTypes, BreaksCalls};
-ghost use Rattle.ir_verifier.specs.First.{earliest, IsFound};
+ghost use Rattle.module_rules.specs.First.{earliest, IsFound};
 ghost use Rattle.ir_verifier.specs.CallFaults.{is_word, is_void, is_one_word, is_none, is_putchar, is_getchar, is_exit, fits_external, fits_func, callee, fits_callee, op_calls_well, block_call_faults, call_faults};
 
 use crate::callees::Callees;
-use crate::first::earlier_if;
 use crate::kinds::{same_kind, same_kinds};
 use ir_core::{Block, Func, IrType, Op, SymId, TypedOperand};
+use module_rules::earlier_if;
 use oi_base::{Place, Width};
 
 /// The first call that names no function that the module defines, and no declared external, of its types. Its condition

@@ -3,13 +3,14 @@ ghost use Rattle.oi_base.specs.Words.{modulus};
 ghost use Rattle.std.specs.List.{list_all};
 ghost use Rattle.ir_core.specs.Stands.{Does, typed};
 ghost use Rattle.ir_core.specs.ValidOps.{BreaksConstants};
-ghost use Rattle.ir_verifier.specs.First.{earliest, IsFound};
-ghost use Rattle.ir_verifier.specs.Faults.{block_faults, fits, fits_type, is_bit, is_pointer, count_fits, const_fits, value_fits, operand_fits, op_count_fits, op_fits, end_fits, step_fits, constant_faults};
+ghost use Rattle.module_rules.specs.First.{earliest, IsFound};
+ghost use Rattle.module_rules.specs.Faults.{block_faults, fits, fits_type, is_bit, is_pointer, count_fits};
+ghost use Rattle.ir_verifier.specs.Faults.{const_fits, value_fits, operand_fits, op_count_fits, op_fits, end_fits, step_fits, constant_faults};
 
-use crate::first::earlier;
 use ir_core::{
     Block, Const, End, Func, IrType, Op, Operand, Pair, SwitchCase, TypedCount, TypedOperand,
 };
+use module_rules::{count_fits, counts_fit, earlier, fits_type, is_bit, is_pointer};
 use oi_base::{Place, Width};
 
 #[tactic(auto, using(crate::proofs::ConstantLaws::constants_found))]
@@ -129,63 +130,5 @@ fn const_fits(t: &IrType, constant: &Const) -> bool
         Const::Null => is_pointer(t),
         Const::Gep(_, _, indices) => counts_fit(indices.as_slice()),
         _ => true,
-    }
-}
-
-fn counts_fit(counts: &[TypedCount]) -> bool
-    ensures { result ≡ list_all count_fits counts.now }
-{
-    for count in counts {
-        if !count_fits(count) {
-            return false;
-        }
-    }
-    true
-}
-
-fn count_fits(count: &TypedCount) -> bool
-    ensures { result ≡ count_fits count.now }
-{
-    fits_type(&count.ty, count.count)
-}
-
-fn is_bit(t: &IrType) -> bool
-    ensures { result ≡ is_bit t.now }
-{
-    matches!(t, IrType::Int(Width::W1))
-}
-
-fn is_pointer(t: &IrType) -> bool
-    ensures { result ≡ is_pointer t.now }
-{
-    matches!(t, IrType::Ptr)
-}
-
-fn fits_type(t: &IrType, number: i128) -> bool
-    ensures { result ≡ fits_type t.now number }
-{
-    match t {
-        IrType::Int(width) => fits(*width, number),
-        _ => false,
-    }
-}
-
-/// Whether an integer of a width w lies in -2^(w-1) to 2^w - 1.
-fn fits(w: Width, number: i128) -> bool
-    ensures { result ≡ fits w number }
-{
-    let words = words(w);
-    -(words / 2) <= number && number < words
-}
-
-/// How many words a width has.
-pub fn words(w: Width) -> i128
-    ensures { result ≡ pos (modulus w) }
-{
-    match w {
-        Width::W1 => 2,
-        Width::W8 => 0x100,
-        Width::W16 => 0x1_0000,
-        Width::W32 => 0x1_0000_0000,
     }
 }

@@ -2,11 +2,12 @@ ghost use Rattle.std.specs.Prelude.{◌≡◌, None, map};
 ghost use Rattle.std.specs.List.{list_any};
 ghost use Rattle.ir_core.specs.Parts.{targets};
 ghost use Rattle.ir_core.specs.ValidFunc.{BreaksEntry};
-ghost use Rattle.ir_verifier.specs.First.{earliest, IsFound};
-ghost use Rattle.ir_verifier.specs.Faults.{is_local, names_entry, entry_fault, entry_faults};
+ghost use Rattle.module_rules.specs.First.{earliest, IsFound};
+ghost use Rattle.module_rules.specs.Faults.{is_local};
+ghost use Rattle.ir_verifier.specs.Faults.{names_entry, entry_fault, entry_faults};
 
-use crate::first::earlier;
 use ir_core::{Block, End, Func, LocalId, SwitchCase};
+use module_rules::earlier;
 use oi_base::Place;
 
 /// The first terminator that names the entry block.

@@ -1,4 +1,5 @@
-//! The verifier: which rule of the accepted IR a module breaks first, and where (docs/RULES.md).
+//! The verifier: which rule of the accepted IR a module breaks first, and where (docs/RULES.md). The rules of functions stand
+//! here, those of the module as a whole in `module_rules`.
 #![tactic(auto)]
 
 mod callees;
@@ -6,15 +7,19 @@ mod calls;
 mod cases;
 mod constants;
 mod entry;
-mod first;
-mod has_main;
 mod kinds;
+mod meanings;
 mod names;
-mod numbers;
+mod offsets;
+mod phis;
 mod positions;
+mod predecessors;
 mod references;
+mod registers;
+#[cfg(test)]
+mod row_tests;
 mod scope;
-mod symbols;
-mod target;
 #[cfg(test)]
 mod tests;
+mod types;
+mod walk;

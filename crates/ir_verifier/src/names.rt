@@ -1,12 +1,11 @@
 ghost use Rattle.std.specs.Prelude.{◌≡◌, map, IfOk, OnOk};
 ghost use Rattle.std.specs.List.{flat_map};
 ghost use Rattle.ir_core.specs.ValidFunc.{BreaksNames, instr_local, block_locals_at, locals_at};
-ghost use Rattle.ir_verifier.specs.First.{IsFound};
+ghost use Rattle.module_rules.specs.First.{IsFound};
 ghost use Rattle.ir_verifier.specs.Faults.{nothing_yet, with_local, with_locals, param_at};
 
-use crate::first::earlier_if;
-use crate::numbers::Numbers;
 use ir_core::{Block, Func, LocalId, Param};
+use module_rules::{Numbers, earlier_if};
 use oi_base::{NoMemory, Place};
 use std::alloc::Global;
 use std::marker::Model;

@@ -1,10 +1,10 @@
 ghost use Rattle.std.specs.Prelude.{◌≡◌, None, false};
 ghost use Rattle.ir_core.specs.ValidFunc.{BreaksPositions};
-ghost use Rattle.ir_verifier.specs.First.{earliest, IsFound};
+ghost use Rattle.module_rules.specs.First.{earliest, IsFound};
 ghost use Rattle.ir_verifier.specs.Faults.{is_phi, is_alloca, is_misplaced, position_fault, position_faults};
 
-use crate::first::earlier;
 use ir_core::{Block, Func, Op};
+use module_rules::earlier;
 use oi_base::Place;
 
 /// The first phi behind something else in its block, or alloca outside the entry block.

@@ -4,13 +4,13 @@ ghost use Rattle.ir_core.specs.declared.module.Module as modules;
 ghost use Rattle.ir_core.specs.Proper.{IsProperFunc};
 ghost use Rattle.ir_core.specs.Stands.{typed};
 ghost use Rattle.ir_core.specs.ValidFunc.{BreaksReferences};
-ghost use Rattle.ir_verifier.specs.First.{earliest, IsFound};
-ghost use Rattle.ir_verifier.specs.Faults.{block_faults, is_known, is_label, op_is_known, end_is_known, step_is_known, global_numbers, reference_faults};
+ghost use Rattle.module_rules.specs.First.{earliest, IsFound};
+ghost use Rattle.module_rules.specs.Faults.{block_faults, global_numbers};
+ghost use Rattle.ir_verifier.specs.Faults.{is_known, is_label, op_is_known, end_is_known, step_is_known, reference_faults};
 
-use crate::first::earlier_if;
-use crate::numbers::Numbers;
 use crate::scope::Scope;
 use ir_core::{Block, End, Func, IrType, Op, Pair, SwitchCase, TypedOperand};
+use module_rules::{Numbers, earlier_if};
 use oi_base::{NoMemory, Place};
 use std::alloc::Global;
 

@@ -1,10 +1,11 @@
 ghost use Rattle.std.specs.Prelude.{◌≡◌, nat_eq, map, IfOk, OnOk};
 ghost use Rattle.std.specs.List.{list_any};
 ghost use Rattle.ir_core.specs.declared.module.Module as modules;
-ghost use Rattle.ir_verifier.specs.Faults.{with_numbers, numbers_of, param_number, global_number, label_number, block_results, value_numbers, global_numbers, scope_of, is_known_const, is_known_value, is_known, is_label};
+ghost use Rattle.module_rules.specs.Faults.{with_numbers, numbers_of, global_number, global_numbers};
+ghost use Rattle.ir_verifier.specs.Faults.{param_number, label_number, block_results, value_numbers, scope_of, is_known_const, is_known_value, is_known, is_label};
 
-use crate::numbers::Numbers;
-use ir_core::{Block, Const, Func, GlobalVar, LocalId, Operand, Param, TypedOperand};
+use ir_core::{Block, Const, Func, LocalId, Operand, Param, TypedOperand};
+use module_rules::Numbers;
 use oi_base::NoMemory;
 use std::alloc::Global;
 use std::marker::Model;
@@ -67,18 +68,7 @@ impl<'a> Scope<'a> {
     }
 }
 
-/// The names of the module's global variables.
-pub fn global_numbers(alloc: Global, globals: &[GlobalVar]) -> Result<Numbers, NoMemory>
-    ensures { IfOk result (λ ns. ns ≡ numbers_of (map global_number globals.now)) }
-{
-    let mut numbers = Numbers::new(alloc);
-    for global in globals {
-        numbers.add(global.name.0)?;
-    }
-    Ok(numbers)
-}
-
-fn label_numbers(alloc: Global, blocks: &[Block]) -> Result<Numbers, NoMemory>
+pub fn label_numbers(alloc: Global, blocks: &[Block]) -> Result<Numbers, NoMemory>
     ensures { IfOk result (λ ns. ns ≡ numbers_of (map label_number blocks.now)) }
 {
     let mut numbers = Numbers::new(alloc);

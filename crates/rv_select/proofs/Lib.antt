@@ -1,12 +1,15 @@
 pub mod BinRow
 pub mod Carried
+pub mod Distinct
 pub mod Entry
+pub mod Giving
 pub mod Halves
 pub mod HeadPlaces
 pub mod Items
 pub mod Loads
 pub mod Moving
 pub mod Operands
+pub mod PhiValues
 pub mod Prepended
 pub mod Results
 pub mod Return

@@ -2,6 +2,7 @@ pub mod Carried
 pub mod Code
 pub mod Drafts
 pub mod Heads
+pub mod Incoming
 pub mod Lowered
 pub mod Parts
 pub mod Stands

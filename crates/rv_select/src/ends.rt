@@ -1,20 +1,21 @@
-ghost use Rattle.std.specs.Prelude.{◌≡◌, ◌++◌, ◌∷◌, [], ℕ, map, OnOk, IfOk};
+ghost use Rattle.std.specs.Prelude.{◌≡◌, ◌++◌, ◌∷◌, [], ℕ, map, slice_get, OnOk, IfOk};
 ghost use Rattle.std.specs.List.{flat_map};
-ghost use Rattle.ir_core.specs.Flat.{entry_for};
-ghost use Rattle.ir_core.specs.Formed.{targets};
 ghost use Rattle.frame_layout.specs.Offsets.{shadow_of};
 ghost use Rattle.rv_select.specs.Drafts.{words, jump_to};
 ghost use Rattle.rv_select.specs.Parts.{t0};
-ghost use Rattle.rv_select.specs.Lowered.{load_from, store_to, take_phi, head, load_entry, give_phi, phis_of, give_phis, numbers, is_in, distinct_from, successors, before_end, jump, case_code, load_value, end_code};
+ghost use Rattle.rv_select.specs.Incoming.{value_at, value_for, HasIncoming};
+ghost use Rattle.rv_select.specs.Lowered.{load_from, store_to, take_phi, head, load_entry, give_phi, give_phis, numbers, distinct_from, successors, before_end, jump, case_code, load_value, end_code};
 
 use crate::drafter::Drafter;
+use crate::incoming::Incoming;
 use crate::instrs::{push_load, push_store};
 use crate::pieces::{push_epilogue, push_load_slot, push_store_slot, push_word};
 use frame_layout::Frame;
-use ir_core::{Case, Entry, FlatBlock, FlatEnd, FlatOp, Phi};
+use ir_core::{Case, FlatBlock, FlatEnd, FlatOp, Phi};
 use oi_base::{BlockId, NoMemory};
 use rv_isa::{Rv, X};
 use std::alloc::Global;
+use std::collections::HashSet;
 
 /// Appends what takes each phi's next value out of its shadow.
 pub fn push_head(code: &mut Drafter, f: &Frame, phis: &[Phi]) -> Result<(), NoMemory>
@@ -51,45 +52,51 @@ fn push_store_to(code: &mut Drafter, offset: Option<u32>) -> Result<(), NoMemory
     }
 }
 
-/// The operand that a phi has for a block.
-fn entry_for(entries: &[Entry], n: usize) -> Option<FlatOp>
-    ensures { result ≡ entry_for n entries.now }
+/// Appends what puts a phi's next value into its shadow.
+fn push_give_phi(
+    code: &mut Drafter,
+    f: &Frame,
+    phi: &Phi,
+    value: Option<FlatOp>,
+) -> Result<(), NoMemory>
+    ensures { OnOk result (code.new ≡ code.old ++ load_entry f.now value ++ store_to t0 (shadow_of f.now phi.now.reg.0)) }
 {
-    for entry in entries {
-        if entry.from.0 as usize == n {
-            return Some(entry.value);
-        }
-    }
-    None
-}
-
-/// Appends what puts a phi's next value behind block `n` into its shadow.
-fn push_give_phi(code: &mut Drafter, f: &Frame, n: usize, phi: &Phi) -> Result<(), NoMemory>
-    ensures { OnOk result (code.new ≡ code.old ++ give_phi f.now n phi.now) }
-{
-    if let Some(o) = entry_for(phi.entries.as_slice(), n) {
+    if let Some(o) = value {
         push_load(code, f, X::T0, o)?;
     }
     push_store_to(code, f.shadow(phi.reg))
 }
 
-fn push_give_phis(code: &mut Drafter, f: &Frame, n: usize, phis: &[Phi]) -> Result<(), NoMemory>
+/// Appends what puts the next values of the phis of block `to` behind block `n` into their shadows.
+fn push_give_phis(
+    code: &mut Drafter,
+    f: &Frame,
+    incoming: &Incoming,
+    n: usize,
+    to: usize,
+    phis: &[Phi],
+) -> Result<(), NoMemory>
+    requires { (p : ℕ) → value_at incoming.now to p n ≡ value_for n (slice_get phis.now p) }
     ensures { OnOk result (code.new ≡ code.old ++ flat_map (give_phi f.now n) phis.now) }
 {
-    for phi in phis {
-        push_give_phi(code, f, n, phi)?;
+    for (position, phi) in phis.iter().enumerate() {
+        push_give_phi(code, f, phi, incoming.get(to, position, n))?;
     }
     Ok(())
 }
 
-/// The blocks that an end leads to: of a switch the cases' in order, and then the default.
-fn targets(alloc: Global, end: &FlatEnd) -> Result<Vec<BlockId>, NoMemory>
-    ensures { IfOk result (λ ts. numbers ts.items ≡ targets end.now) }
+/// The blocks that an end leads to, each once, in the order in which they first come: of a switch the cases', and then
+/// the default.
+fn successors(alloc: Global, end: &FlatEnd) -> Result<Vec<BlockId>, NoMemory>
+    ensures { IfOk result (λ ts. numbers ts.items ≡ successors end.now) }
 {
     match end {
         FlatEnd::Br(to) => one_target(alloc, *to),
         FlatEnd::Cond(_, yes, no) => two_targets(alloc, *yes, *no),
-        FlatEnd::Switch(_, _, cases, other) => case_targets(alloc, cases.as_slice(), *other),
+        FlatEnd::Switch(_, _, cases, other) => {
+            let targets = case_targets(alloc, cases.as_slice(), *other)?;
+            distinct(alloc, &targets)
+        }
         FlatEnd::Ret(_) | FlatEnd::Unreachable => Ok(Vec::new(alloc)),
     }
 }
@@ -103,10 +110,12 @@ fn one_target(alloc: Global, to: BlockId) -> Result<Vec<BlockId>, NoMemory>
 }
 
 fn two_targets(alloc: Global, yes: BlockId, no: BlockId) -> Result<Vec<BlockId>, NoMemory>
-    ensures { IfOk result (λ ts. numbers ts.items ≡ yes.0 ∷ no.0 ∷ []) }
+    ensures { IfOk result (λ ts. numbers ts.items ≡ distinct_from [] (yes.0 ∷ no.0 ∷ [])) }
 {
     let mut targets = one_target(alloc, yes)?;
-    targets.push(no)?;
+    if no != yes {
+        targets.push(no)?;
+    }
     Ok(targets)
 }
 
@@ -121,29 +130,18 @@ fn case_targets(alloc: Global, cases: &[Case], other: BlockId) -> Result<Vec<Blo
     Ok(targets)
 }
 
-/// The blocks that an end leads to, each once, in the order in which they first come.
-fn successors(alloc: Global, end: &FlatEnd) -> Result<Vec<BlockId>, NoMemory>
-    ensures { IfOk result (λ ts. numbers ts.items ≡ successors end.now) }
+/// These blocks, each once, in the order in which they first come.
+fn distinct(alloc: Global, blocks: &[BlockId]) -> Result<Vec<BlockId>, NoMemory>
+    ensures { IfOk result (λ ts. numbers ts.items ≡ distinct_from [] (numbers blocks.now)) }
 {
-    let targets = targets(alloc, end)?;
-    let mut seen = Vec::new(alloc);
-    for to in &targets {
-        if !is_in(&seen, *to) {
-            seen.push(*to)?;
+    let mut seen = HashSet::new(alloc);
+    let mut distinct = Vec::new(alloc);
+    for block in blocks {
+        if seen.insert(block.0)? {
+            distinct.push(*block)?;
         }
     }
-    Ok(seen)
-}
-
-fn is_in(seen: &[BlockId], to: BlockId) -> bool
-    ensures { result ≡ is_in (numbers seen.now) to.0 }
-{
-    for block in seen {
-        if *block == to {
-            return true;
-        }
-    }
-    false
+    Ok(distinct)
 }
 
 /// Appends what gives the phis of each successor their next values.
@@ -151,15 +149,17 @@ pub fn push_before_end(
     alloc: Global,
     code: &mut Drafter,
     f: &Frame,
+    incoming: &Incoming,
     blocks: &[FlatBlock],
     n: usize,
     end: &FlatEnd,
 ) -> Result<(), NoMemory>
+    requires { HasIncoming incoming.now blocks.now }
     ensures { OnOk result (code.new ≡ code.old ++ before_end f.now blocks.now n end.now) }
 {
     let successors = successors(alloc, end)?;
     for to in &successors {
-        push_give_to(code, f, blocks, n, *to)?;
+        push_give_to(code, f, incoming, blocks, n, *to)?;
     }
     Ok(())
 }
@@ -167,14 +167,17 @@ pub fn push_before_end(
 fn push_give_to(
     code: &mut Drafter,
     f: &Frame,
+    incoming: &Incoming,
     blocks: &[FlatBlock],
     n: usize,
     to: BlockId,
 ) -> Result<(), NoMemory>
+    requires { HasIncoming incoming.now blocks.now }
     ensures { OnOk result (code.new ≡ code.old ++ give_phis f.now blocks.now n to.0) }
 {
-    match blocks.get(to.0 as usize) {
-        Some(block) => push_give_phis(code, f, n, block.phis.as_slice()),
+    let to = to.0 as usize;
+    match blocks.get(to) {
+        Some(block) => push_give_phis(code, f, incoming, n, to, block.phis.as_slice()),
         None => Ok(()),
     }
 }

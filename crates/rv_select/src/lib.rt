@@ -6,6 +6,7 @@ mod code;
 mod drafter;
 mod ends;
 mod faults;
+mod incoming;
 mod instrs;
 mod item;
 mod laws;

@@ -4,6 +4,7 @@ ghost use Rattle.ir_core.specs.WellFormed.{IsWellFormed};
 ghost use Rattle.rv_isa.specs.Words.{IsSigned, IsEven};
 ghost use Rattle.rv_select.specs.Drafts.{IsDraft, IsItem, item_at, items_from};
 ghost use Rattle.rv_select.specs.Lowered.{instr, block, blocks_from, prologue, keep_parameters, HasFewArguments};
+ghost use Rattle.rv_select.specs.Incoming.{HasIncoming};
 ghost use Rattle.rv_select.specs.Heads.{HasFewIn, heads_from, place_in, IsTooLong};
 ghost use Rattle.rv_select.specs.Code.{code, code_with, code_bytes, IsRefused};
 
@@ -11,6 +12,7 @@ use crate::code::Code;
 use crate::drafter::Drafter;
 use crate::ends::{push_before_end, push_end, push_head};
 use crate::faults::{Cause, NoSize, SelectFault};
+use crate::incoming::Incoming;
 use crate::instrs::{push_instr, push_store};
 use crate::item::{Draft, Item};
 use crate::pieces::push_open_frame;
@@ -53,7 +55,9 @@ pub fn with_frame(alloc: Global, b: &FlatBody, f: &Frame) -> Result<Code, Select
 {
     let mut drafts = Drafter::new(alloc);
     push_prologue(&mut drafts, f, b.params)?;
-    let heads = push_blocks(alloc, &mut drafts, f, b.blocks.as_slice())?;
+    let blocks = b.blocks.as_slice();
+    let incoming = Incoming::of_blocks(alloc, blocks)?;
+    let heads = push_blocks(alloc, &mut drafts, f, &incoming, blocks)?;
     if drafts.len() > MOST_ITEMS {
         return Err(SelectFault::NoSize(NoSize {
             cause: Cause::Code,
@@ -88,16 +92,18 @@ fn push_blocks(
     alloc: Global,
     code: &mut Drafter,
     f: &Frame,
+    incoming: &Incoming,
     blocks: &[FlatBlock],
 ) -> Result<Vec<usize>, NoMemory>
-    requires { All HasFewIn blocks.now }
+    requires calls { All HasFewIn blocks.now }
+    requires incoming { HasIncoming incoming.now blocks.now }
     ensures code { OnOk result (code.new ≡ code.old ++ blocks_from f.now blocks.now 0 blocks.now) }
     ensures heads { IfOk result (λ heads. heads.items ≡ heads_from f.now blocks.now 0 (length code.old) blocks.now) }
 {
     let mut heads = Vec::new(alloc);
     for (n, block) in blocks.iter().enumerate() {
         heads.push(code.len())?;
-        push_block(alloc, code, f, blocks, n, block)?;
+        push_block(alloc, code, f, incoming, blocks, n, block)?;
     }
     Ok(heads)
 }
@@ -106,16 +112,18 @@ fn push_block(
     alloc: Global,
     code: &mut Drafter,
     f: &Frame,
+    incoming: &Incoming,
     blocks: &[FlatBlock],
     n: usize,
     b: &FlatBlock,
 ) -> Result<(), NoMemory>
-    requires { HasFewIn b.now }
+    requires calls { HasFewIn b.now }
+    requires incoming { HasIncoming incoming.now blocks.now }
     ensures { OnOk result (code.new ≡ code.old ++ block f.now blocks.now n b.now) }
 {
     push_head(code, f, b.phis.as_slice())?;
     push_instrs(code, f, b.code.as_slice())?;
-    push_before_end(alloc, code, f, blocks, n, &b.end)?;
+    push_before_end(alloc, code, f, incoming, blocks, n, &b.end)?;
     push_end(code, f, n, &b.end)
 }
 

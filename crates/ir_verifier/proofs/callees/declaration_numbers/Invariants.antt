@@ -1,5 +1,5 @@
 use Rattle.std.proofs.Common.{◌≡◌, drop, map}
-use Rattle.ir_verifier.specs.Faults.{with_numbers, numbers_of}
+use Rattle.module_rules.specs.Faults.{with_numbers, numbers_of}
 use Rattle.ir_verifier.specs.CallFaults.{declared_number}
 use Rattle.ir_verifier.proofs.callees.declaration_numbers.Given as goal
 

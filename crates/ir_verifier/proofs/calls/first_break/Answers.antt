@@ -1,6 +1,6 @@
 use Rattle.std.proofs.Common.{sym, subst}
 use Rattle.ir_core.specs.ValidOps.{BreaksCalls}
-use Rattle.ir_verifier.specs.First.{IsFound}
+use Rattle.module_rules.specs.First.{IsFound}
 use Rattle.ir_verifier.proofs.CallLaws.{calls_found}
 use Rattle.ir_verifier.proofs.calls.first_break.Goals as goal
 

@@ -1,6 +1,6 @@
-use Rattle.ir_verifier.specs.First.{earlier}
+use Rattle.module_rules.specs.First.{earlier}
 use Rattle.ir_verifier.specs.CallFaults.{block_call_faults}
-use Rattle.ir_verifier.proofs.Folds.{fold_step}
+use Rattle.module_rules.proofs.Folds.{fold_step}
 use Rattle.ir_verifier.proofs.calls.first_fault.Goals as goal
 
 pub loop-block-preserved : goal.loop-block-preserved

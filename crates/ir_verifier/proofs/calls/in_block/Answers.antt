@@ -1,8 +1,8 @@
 use Rattle.std.proofs.Common.{not, ap, ◌∙◌, Bool}
-use Rattle.ir_verifier.specs.First.{earlier, earliest}
-use Rattle.ir_verifier.specs.Faults.{place_if}
+use Rattle.module_rules.specs.First.{earlier, earliest}
+use Rattle.module_rules.specs.Faults.{place_if}
 use Rattle.ir_verifier.specs.CallFaults.{call_fault}
-use Rattle.ir_verifier.proofs.Folds.{fold_step}
+use Rattle.module_rules.proofs.Folds.{fold_step}
 use Rattle.ir_verifier.proofs.calls.in_block.Goals as goal
 
 pub loop-instr-preserved : goal.loop-instr-preserved

@@ -1,6 +1,6 @@
 use Rattle.std.proofs.Common.{◌≡◌, drop}
 use Rattle.std.specs.List.{flat_map}
-use Rattle.ir_verifier.specs.First.{earliest}
+use Rattle.module_rules.specs.First.{earliest}
 use Rattle.ir_verifier.specs.CallFaults.{call_fault, block_call_faults}
 use Rattle.ir_verifier.proofs.calls.in_block.Given as goal
 

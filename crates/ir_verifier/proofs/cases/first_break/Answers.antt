@@ -1,7 +1,7 @@
 use Rattle.std.proofs.Common.{subst, sym}
 use Rattle.std.proofs.lemmas.Result.{IfOk-weaker}
 use Rattle.ir_core.specs.ValidOps.{BreaksCases}
-use Rattle.ir_verifier.specs.First.{IsFound}
+use Rattle.module_rules.specs.First.{IsFound}
 use Rattle.ir_verifier.proofs.CaseLaws.{cases_found}
 use Rattle.ir_verifier.proofs.cases.first_break.Goals as goal
 

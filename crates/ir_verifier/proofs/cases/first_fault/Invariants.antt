@@ -1,6 +1,6 @@
 use Rattle.std.proofs.Common.{◌≡◌, None, drop}
 use Rattle.std.specs.List.{flat_map}
-use Rattle.ir_verifier.specs.First.{earliest}
+use Rattle.module_rules.specs.First.{earliest}
 use Rattle.ir_verifier.specs.Faults.{case_fault, case_faults}
 use Rattle.ir_verifier.proofs.cases.first_fault.Given as goal
 

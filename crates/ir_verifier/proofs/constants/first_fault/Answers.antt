@@ -1,8 +1,9 @@
 use Rattle.std.proofs.Common.{not}
 use Rattle.ir_core.specs.Stands.{Step}
-use Rattle.ir_verifier.specs.Faults.{block_faults, step_fits}
-use Rattle.ir_verifier.specs.First.{earlier}
-use Rattle.ir_verifier.proofs.Folds.{fold_step}
+use Rattle.module_rules.specs.Faults.{block_faults}
+use Rattle.ir_verifier.specs.Faults.{step_fits}
+use Rattle.module_rules.specs.First.{earlier}
+use Rattle.module_rules.proofs.Folds.{fold_step}
 use Rattle.ir_verifier.proofs.constants.first_fault.Goals as goal
 
 -- src/constants.rt:28:5

@@ -1,7 +1,7 @@
 use Rattle.std.proofs.Common.{◌≡◌, map, drop}
 use Rattle.std.specs.List.{list_any}
 use Rattle.ir_core.specs.declared.op.SwitchCase.{SwitchCase}
-use Rattle.ir_verifier.specs.Faults.{is_local}
+use Rattle.module_rules.specs.Faults.{is_local}
 use Rattle.ir_verifier.proofs.entry.any_case.Given as goal
 
 abbrev pub invariant-loop-case : goal.invariant-loop-case

@@ -1,6 +1,6 @@
 use Rattle.std.proofs.Common.{◌≡◌, None, drop}
 use Rattle.std.specs.List.{flat_map}
-use Rattle.ir_verifier.specs.First.{earliest}
+use Rattle.module_rules.specs.First.{earliest}
 use Rattle.ir_verifier.specs.Faults.{entry_fault, entry_faults}
 use Rattle.ir_verifier.proofs.entry.first_fault.Given as goal
 

@@ -1,6 +1,6 @@
 use Rattle.std.proofs.Common.{sym, subst, ◌∙◌, ap}
 use Rattle.ir_core.specs.ValidFunc.{BreaksNames}
-use Rattle.ir_verifier.specs.First.{IsFound}
+use Rattle.module_rules.specs.First.{IsFound}
 use Rattle.ir_verifier.proofs.NameLaws.{names_found}
 use Rattle.ir_verifier.proofs.names.first_break.Goals as goal
 

@@ -1,5 +1,5 @@
 use Rattle.std.proofs.Common.{◌≡◌, None, drop}
-use Rattle.ir_verifier.specs.First.{earliest}
+use Rattle.module_rules.specs.First.{earliest}
 use Rattle.ir_verifier.specs.Faults.{position_faults_from, position_faults}
 use Rattle.ir_verifier.proofs.positions.first_fault.Given as goal
 

@@ -1,5 +1,5 @@
 use Rattle.std.proofs.Common.{◌≡◌, drop}
-use Rattle.ir_verifier.specs.First.{earliest}
+use Rattle.module_rules.specs.First.{earliest}
 use Rattle.ir_verifier.specs.Faults.{code_faults, position_fault}
 use Rattle.ir_verifier.proofs.positions.in_block.Given as goal
 

@@ -1,6 +1,6 @@
 use Rattle.std.proofs.Common.{sym, subst, ◌∙◌, ap, None}
 use Rattle.ir_core.specs.ValidFunc.{BreaksReferences}
-use Rattle.ir_verifier.specs.First.{earliest, IsFound}
+use Rattle.module_rules.specs.First.{earliest, IsFound}
 use Rattle.ir_verifier.specs.Faults.{reference_faults}
 use Rattle.ir_verifier.proofs.ReferencesFound.{references_found}
 use Rattle.ir_verifier.proofs.references.first_break.Goals as goal

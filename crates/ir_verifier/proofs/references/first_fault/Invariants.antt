@@ -1,8 +1,9 @@
 use Rattle.std.proofs.Common.{◌≡◌, drop, None, not}
 use Rattle.std.specs.List.{flat_map}
 use Rattle.ir_core.specs.Stands.{Step}
-use Rattle.ir_verifier.specs.First.{earliest}
-use Rattle.ir_verifier.specs.Faults.{block_faults, step_is_known, reference_faults}
+use Rattle.module_rules.specs.First.{earliest}
+use Rattle.module_rules.specs.Faults.{block_faults}
+use Rattle.ir_verifier.specs.Faults.{step_is_known, reference_faults}
 use Rattle.ir_verifier.proofs.references.first_fault.Given as goal
 
 abbrev pub invariant-loop-block : goal.invariant-loop-block

@@ -1,8 +1,9 @@
 use Rattle.std.proofs.Common.{not, ap, ◌∙◌, Bool}
 use Rattle.ir_core.specs.declared.func.Instr.{Instr}
-use Rattle.ir_verifier.specs.First.{earlier, earliest}
-use Rattle.ir_verifier.specs.Faults.{place_if, op_is_known, end_is_known}
-use Rattle.ir_verifier.proofs.Folds.{fold_step_before}
+use Rattle.module_rules.specs.First.{earlier, earliest}
+use Rattle.module_rules.specs.Faults.{place_if}
+use Rattle.ir_verifier.specs.Faults.{op_is_known, end_is_known}
+use Rattle.module_rules.proofs.Folds.{fold_step_before}
 use Rattle.ir_verifier.proofs.references.in_block.Goals as goal
 
 pub loop-instr-preserved : goal.loop-instr-preserved

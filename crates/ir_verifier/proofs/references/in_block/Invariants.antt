@@ -2,8 +2,9 @@ use Rattle.std.proofs.Common.{◌≡◌, drop, not, ◌++◌}
 use Rattle.std.specs.List.{flat_map}
 use Rattle.ir_core.specs.declared.func.Instr.{Instr}
 use Rattle.ir_core.specs.Stands.{Step}
-use Rattle.ir_verifier.specs.First.{earliest}
-use Rattle.ir_verifier.specs.Faults.{place_if, block_faults, op_is_known, end_is_known, step_is_known}
+use Rattle.module_rules.specs.First.{earliest}
+use Rattle.module_rules.specs.Faults.{place_if, block_faults}
+use Rattle.ir_verifier.specs.Faults.{op_is_known, end_is_known, step_is_known}
 use Rattle.ir_verifier.proofs.references.in_block.Given as goal
 
 abbrev pub invariant-loop-instr : goal.invariant-loop-instr

@@ -1,6 +1,7 @@
 use Rattle.std.proofs.Common.{◌≡◌, drop}
 use Rattle.std.specs.List.{flat_map}
-use Rattle.ir_verifier.specs.Faults.{with_numbers, result_number, block_results}
+use Rattle.module_rules.specs.Faults.{with_numbers}
+use Rattle.ir_verifier.specs.Faults.{result_number, block_results}
 use Rattle.ir_verifier.proofs.scope.add_results.Given as goal
 
 abbrev pub invariant-loop-instr : goal.invariant-loop-instr

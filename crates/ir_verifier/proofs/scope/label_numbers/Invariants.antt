@@ -1,5 +1,6 @@
 use Rattle.std.proofs.Common.{◌≡◌, drop, map}
-use Rattle.ir_verifier.specs.Faults.{with_numbers, numbers_of, label_number}
+use Rattle.module_rules.specs.Faults.{with_numbers, numbers_of}
+use Rattle.ir_verifier.specs.Faults.{label_number}
 use Rattle.ir_verifier.proofs.scope.label_numbers.Given as goal
 
 abbrev pub invariant-loop-block : goal.invariant-loop-block

@@ -1,5 +1,6 @@
 use Rattle.std.proofs.Common.{◌≡◌, drop, map}
-use Rattle.ir_verifier.specs.Faults.{with_numbers, numbers_of, param_number}
+use Rattle.module_rules.specs.Faults.{with_numbers, numbers_of}
+use Rattle.ir_verifier.specs.Faults.{param_number}
 use Rattle.ir_verifier.proofs.scope.param_numbers.Given as goal
 
 abbrev pub invariant-loop-param : goal.invariant-loop-param

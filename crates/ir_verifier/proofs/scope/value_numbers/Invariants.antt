@@ -1,6 +1,7 @@
 use Rattle.std.proofs.Common.{◌≡◌, drop}
 use Rattle.std.specs.List.{flat_map}
-use Rattle.ir_verifier.specs.Faults.{with_numbers, block_results, value_numbers}
+use Rattle.module_rules.specs.Faults.{with_numbers}
+use Rattle.ir_verifier.specs.Faults.{block_results, value_numbers}
 use Rattle.ir_verifier.proofs.scope.value_numbers.Given as goal
 
 abbrev pub invariant-loop-block : goal.invariant-loop-block

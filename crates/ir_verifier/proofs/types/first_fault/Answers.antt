@@ -1,0 +1,10 @@
+use Rattle.std.proofs.Common.{not}
+use Rattle.ir_core.specs.Stands.{Step}
+use Rattle.module_rules.specs.First.{earlier}
+use Rattle.module_rules.specs.Faults.{block_faults}
+use Rattle.ir_verifier.specs.TypeFaults.{step_agrees}
+use Rattle.module_rules.proofs.Folds.{fold_step}
+use Rattle.ir_verifier.proofs.types.first_fault.Goals as goal
+
+pub loop-block-preserved : goal.loop-block-preserved
+loop-block-preserved c = fold_step earlier (block_faults (λ (s : Step). not (step_agrees c.args.typing.now c.args.f.now.result s))) _ _ _ _ _ _ _ c.in_block-first.ensures c.as_slice-block-items.ensures c.loop-block-test.true c.block-item.is c.loop-block.invariant

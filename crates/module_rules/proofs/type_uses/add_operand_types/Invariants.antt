@@ -1,0 +1,10 @@
+use Rattle.std.proofs.Common.{◌≡◌, drop}
+use Rattle.ir_core.specs.Parts.{types_of}
+use Rattle.ir_core.specs.ValidTypes.{value_uses}
+use Rattle.module_rules.specs.TypeFaults.{state, with_uses}
+use Rattle.module_rules.proofs.type_uses.add_operand_types.Given as goal
+
+abbrev pub invariant-loop-operand : goal.invariant-loop-operand
+invariant-loop-operand l =
+    with_uses (state l.to) (value_uses l.place (types_of (drop l.operand-index l.operands)))
+    ≡ with_uses (state l.fn.to) (value_uses l.place (types_of l.operands))

@@ -1,0 +1,26 @@
+//! The rules of a module as a whole, and what serves every rule: the first of some places, sets of numbers, and which
+//! integers fit their types (docs/RULES.md).
+#![tactic(auto)]
+
+pub mod alignments;
+mod components;
+mod cycles;
+mod first;
+pub mod has_main;
+mod integers;
+mod measure;
+mod numbers;
+mod struct_names;
+pub mod symbols;
+pub mod target;
+#[cfg(test)]
+mod tests;
+pub mod type_names;
+mod type_parts;
+mod type_uses;
+mod variables;
+
+pub use first::{earlier, earlier_if, is_up_to};
+pub use integers::{count_fits, counts_fit, fits_type, is_bit, is_pointer, words};
+pub use numbers::Numbers;
+pub use variables::global_numbers;
