@@ -1,5 +1,5 @@
 -- A token in one of two sets, and a definition's word.
-use Rattle.std.proofs.Common.{◌≡◌, ℕ, Bool, true, false, ◌||◌, List, [], ◌∷◌, ◌++◌, Err, refl, sym, ◌∙◌}
+use Rattle.std.proofs.Common.{◌≡◌, ℕ, Bool, true, false, ◌||◌, List, [], ◌∷◌, ◌++◌, Err, refl, sym, subst}
 use Rattle.std.specs.Prelude.{codes}
 use Rattle.std.specs.Str.{bytes_eq}
 use Rattle.ir_lexer.specs.declared.table.Token.{Token}
@@ -37,7 +37,7 @@ no_define : (n : ℕ) (t : Token) → has define_word t ≡ false → define_of 
 no_define n (tokens.Word w) e = by (bytes_eq w (codes "define")) refl
   where
     by : (b : Bool) → bytes_eq w (codes "define") ≡ b → define_of stated n (tokens.Word w) ≡ Refuses
-    by true h = absurd (cc (sym (rw h e)))
+    by true h = let k : (true || false) ≡ false = subst (λ b. (b || false) ≡ false) h e in absurd cc
     by false h = rw h refl
 no_define n (tokens.Int i) e = refl
 no_define n (tokens.Label w) e = refl

@@ -21,11 +21,15 @@ use Rattle.ir_phrases.specs.declared.fault.ReadFault.TheVariants as faults
 use Rattle.ir_phrases.specs.Gives.{left_out_if, refused, said, fault_of, Fails}
 use Rattle.ir_reader.specs.Refusals.{ReadsWithin, ExceedsNone, RefusesToken, ExceedsSites, IsRefusal}
 
+one_fault : {A : Type 0} (o : Outcome A) (x y : Fault) → o ≡ Err x → o ≡ Err y → x ≡ y
+one_fault o x y e f = cc
+
+other_why : (w : Which) → Refused ≡ Exceeds w → ⊥
+other_why w e = absurd cc
+
 none_exceeds : (bytes : List ℕ) (at : List Piece) → read bytes ≡ Err (record { at = at; why = Refused }) → ExceedsNone bytes
 none_exceeds bytes at e w u t rest h =
-    let told = exceeded_told bytes w u t rest h in
-    let same : Err (record { at = at; why = Refused }) ≡ Err {A = modules.Module × Left} (record { at = Is t ∷ rest; why = Exceeds w }) = sym e ∙ told in
-    absurd (cc same)
+    other_why w (ap (λ (d : Fault). d.why) (one_fault (read bytes) (record { at = at; why = Refused }) (record { at = Is t ∷ rest; why = Exceeds w }) e (exceeded_told bytes w u t rest h)))
 
 refused_token : (bytes : List ℕ) (u rest : List Piece) (t : Spot) (named : Bool) → is_left_out t.token ≡ named → FirstRefused bytes u (Is t) rest → ExceedsNone bytes → IsRefusal bytes (left_out_if named t.place)
 refused_token bytes u rest t true e h none = (u, rest, t, h, refl, e, none)

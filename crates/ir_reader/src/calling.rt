@@ -4,6 +4,7 @@ ghost use Rattle.ir_grammar.specs.Forms.{act, token, choose};
 ghost use Rattle.ir_grammar.specs.Tokens.{expect, stated};
 ghost use Rattle.ir_grammar.specs.Operations.{tail_word, call_words, call_words_form, call_head, call_end, callee, callee_of, is_lifetime, named_call, result_of, called, lifetime, unnamed_call};
 ghost use Rattle.ir_phrases.specs.Gives.{Gives};
+ghost use Rattle.ir_reader.specs.Calls.{call_behind_type, call_from_type};
 
 use crate::bracketing::arguments;
 use crate::lining::Line;
@@ -151,6 +152,24 @@ fn call_or_lifetime(
     called(reader, ty, name)
 }
 
+/// The rest of a call behind its type, where so many type names came before.
+fn call_behind_type(reader: &mut Reader<'_>, types: usize, ty: IrType) -> Result<Line, ReadFault>
+    ensures { Gives result reader.new ((call_behind_type types ty).parse reader.old) }
+{
+    let name = reader.text(Kind::Global)?;
+    let line = call_or_lifetime(reader, types, ty, name)?;
+    call_end(reader)?;
+    Ok(line)
+}
+
+/// The rest of a call behind its attributes.
+fn call_from_type(reader: &mut Reader<'_>, types: usize) -> Result<Line, ReadFault>
+    ensures { Gives result reader.new ((call_from_type types).parse reader.old) }
+{
+    let ty = reader.type_form()?;
+    call_behind_type(reader, types, ty)
+}
+
 /// A call without a name for its result.
 #[tactic(auto, unfolding(ir_grammar::specs::Operations::unnamed_call))]
 pub fn unnamed_call(reader: &mut Reader<'_>) -> Result<Line, ReadFault>
@@ -158,9 +177,5 @@ pub fn unnamed_call(reader: &mut Reader<'_>) -> Result<Line, ReadFault>
 {
     call_head(reader)?;
     let types = reader.type_count();
-    let ty = reader.type_form()?;
-    let name = reader.text(Kind::Global)?;
-    let line = call_or_lifetime(reader, types, ty, name)?;
-    call_end(reader)?;
-    Ok(line)
+    call_from_type(reader, types)
 }
