@@ -2,3 +2,5 @@ pub mod Refused
 pub mod RoundLaws
 pub mod Loops
 pub mod Heads
+pub mod Settled
+pub mod Counted

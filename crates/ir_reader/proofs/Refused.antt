@@ -5,6 +5,7 @@ use Rattle.std.specs.Option.{option_map}
 use Rattle.std.proofs.lemmas.Option.{slice_get_cases, slice_get_within}
 use Rattle.oi_base.specs.declared.ids.Place.{Place}
 use Rattle.ir_lexer.specs.declared.table.Spot.{Spot}
+use Rattle.ir_core.specs.declared.func.Func.{Func}
 use Rattle.ir_core.specs.declared.module.Module as modules
 use Rattle.call_graph.specs.declared.sites.Site.{Site}
 use Rattle.call_graph.specs.Sites.{all_sites}
@@ -76,6 +77,10 @@ pub within_is_read : (bytes : List ℕ) (m : modules.Module) (e : ReadFault) →
 within_is_read bytes m e h k = let r = read_exactly bytes m h.0 in fails_no_more e (read bytes) (m, record { names = r.0; tokens = [] }) r.1 k
 
 -- ---- the limit on call sites
+
+-- what is found of the sites of a list of functions is told of an equal one
+pub told_of : (funcs listed : List Func) (o r : Option Place) → listed ≡ funcs → o ≡ option_map (λ (s : Site). s.place) (slice_get (all_sites listed) 4096) → o ≡ r → option_map (λ (s : Site). s.place) (slice_get (all_sites funcs) 4096) ≡ r
+told_of funcs listed o r same e f = rw (← same) (sym e ∙ f)
 
 pub place_there : (sites : List Site) (n : ℕ) (p : Place) → option_map (λ (s : Site). s.place) (slice_get sites n) ≡ Some p → (s : Site) × (slice_get sites n ≡ Some s) × (s.place ≡ p)
 place_there sites n p e = there (slice_get sites n) refl

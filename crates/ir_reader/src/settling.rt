@@ -62,5 +62,6 @@ pub fn functions_of(
     ensures { IfOk result (λ fs. fs ≡ map (function_of noinline) definitions) }
 {
     let groups = Table::of(alloc, noinline.as_slice())?;
-    turned(alloc, settled_backwards(alloc, &groups, definitions)?)
+    let backwards = settled_backwards(alloc, &groups, definitions)?;
+    turned(alloc, backwards)
 }
