@@ -59,6 +59,7 @@ among_found name names = is_there (nat_lt (position_or_len (bytes_eq name) names
     is_there : (b : Bool) (n : ℕ) → is_some (cond b (Some n) None) ≡ b
     is_there true n = refl
     is_there false n = refl
+
     among_any : (vs : List (List ℕ)) → among vs name ≡ list_any (bytes_eq name) vs
     among_any [] = refl
     among_any (v ∷ vs) = ap (λ b. bytes_eq name v || b) (among_any vs)
@@ -76,8 +77,10 @@ among_seen vs v name = seen (position (bytes_eq v) vs) refl
     already true c h = refl
     already false true h = h refl
     already false false h = refl
+
     is_it : bytes_eq name v ≡ true → name ≡ v
     is_it e = (bytes_eq-Decides name v).0 e
+
     seen : (at : Option ℕ) → position (bytes_eq v) vs ≡ at → among (placed at v vs).1 name ≡ (among vs name || bytes_eq name v)
     seen None e = among_more vs v name
     seen (Some k) e = already (among vs name) (bytes_eq name v) (λ h. rw (is_it h) (sym (among_found v vs) ∙ ap is_some e))

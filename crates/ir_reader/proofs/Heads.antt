@@ -8,8 +8,8 @@ use Rattle.ir_grammar.specs.declared.kinds.Kind.TheVariants as kinds
 use Rattle.ir_grammar.specs.Pieces.{Piece, Is, Bad}
 use Rattle.ir_grammar.specs.Names.{Names}
 use Rattle.ir_grammar.specs.Sets.{Set, has, head_in}
-use Rattle.ir_grammar.specs.Forms.{Refused, Refuses, judged, parse_token}
-use Rattle.ir_grammar.specs.Tokens.{kind, word, words_of, stated}
+use Rattle.ir_grammar.specs.Forms.{Refused, Refuses, parse_token}
+use Rattle.ir_grammar.specs.Tokens.{kind, words_of, stated}
 use Rattle.ir_grammar.specs.Values.{gep_word}
 use Rattle.ir_grammar.specs.Operations.{bin_words, icmp_word, select_word, cast_words, alloca_word, load_word, phi_word, other_words}
 use Rattle.ir_grammar.specs.Bodies.{plain_value_set, other_block_set}

@@ -1,9 +1,8 @@
 -- Loops whose rounds take a token at least.
-use Rattle.std.proofs.Common.{◌≡◌, ◌<◌, Bool, true, false, List, [], ◌∷◌, ◌++◌, length, Ok, sym}
+use Rattle.std.proofs.Common.{◌≡◌, ◌<◌, true, length, Ok}
 use Rattle.ir_grammar.specs.Sets.{Set, head_in}
 use Rattle.ir_grammar.specs.Forms.{Left, Outcome, Form, rounds}
-use Rattle.ir_grammar.specs.Tokens.{many}
-use Rattle.ir_phrases.proofs.Many.{many_next, many_less, rounds_next}
+use Rattle.ir_phrases.proofs.Many.{many_less, rounds_next}
 use Rattle.ir_reader.proofs.RoundLaws.{Consumes}
 
 pub round_less : {A : Type 0} (f : Form A) → Consumes f → (x : A) (l l1 : Left) → f.parse l ≡ Ok (x, l1) → length l1.tokens < length l.tokens

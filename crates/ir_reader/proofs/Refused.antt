@@ -1,5 +1,5 @@
 -- What the reading's faults say of a text, and that it is read exactly within the limits.
-use Rattle.std.proofs.Common.{◌≡◌, ◌⊎◌, inl, inr, ℕ, ◌≤◌, ◌<◌, Bool, true, false, List, [], ◌∷◌, length, Option, Some, None, Ok, Err, refl, sym, ap, ◌∙◌, subst, arith}
+use Rattle.std.proofs.Common.{◌≡◌, inl, inr, ℕ, ◌≤◌, Bool, true, false, List, [], ◌∷◌, length, Option, Some, None, Ok, Err, refl, sym, ap, ◌∙◌, subst, arith}
 use Rattle.std.specs.Prelude.{slice_get}
 use Rattle.std.specs.Option.{option_map}
 use Rattle.std.proofs.lemmas.Option.{slice_get_cases, slice_get_within}
@@ -14,13 +14,13 @@ use Rattle.ir_grammar.specs.declared.which.Which.TheVariants as limits
 use Rattle.ir_grammar.specs.Pieces.{Piece, Is, Bad}
 use Rattle.ir_grammar.specs.Words.{is_left_out}
 use Rattle.ir_grammar.specs.Forms.{Left, Fault, Why, Refused, Exceeds, Outcome, place_of}
-use Rattle.ir_grammar.specs.Reading.{ReadsWithinLimits, FirstRefused, ExceedsAt, read}
+use Rattle.ir_grammar.specs.Reading.{FirstRefused, read}
 use Rattle.ir_grammar.proofs.OneModule.{one_module_within}
 use Rattle.ir_grammar.proofs.Faults.{read_to_end, read_exactly, first_refused, exceeded_place, exceeded_told}
 use Rattle.ir_phrases.specs.declared.fault.ReadFault.{ReadFault}
 use Rattle.ir_phrases.specs.declared.fault.ReadFault.TheVariants as faults
 use Rattle.ir_phrases.specs.Gives.{left_out_if, refused, said, fault_of, Fails}
-use Rattle.ir_reader.specs.Refusals.{ReadsWithin, ExceedsNone, RefusesToken, ExceedsSites, IsRefusal}
+use Rattle.ir_reader.specs.Refusals.{ReadsWithin, ExceedsNone, IsRefusal}
 
 one_fault : {A : Type 0} (o : Outcome A) (x y : Fault) → o ≡ Err x → o ≡ Err y → x ≡ y
 one_fault o x y e f = cc

@@ -8,16 +8,16 @@ use Rattle.ir_grammar.specs.declared.parts.Progress.{Progress}
 use Rattle.ir_grammar.specs.declared.parts.Draft.{Draft}
 use Rattle.ir_grammar.specs.Sets.{Set, apart}
 use Rattle.ir_grammar.specs.Forms.{Form}
-use Rattle.ir_grammar.specs.Tokens.{Limits, stated, is_past, sign, words_of}
+use Rattle.ir_grammar.specs.Tokens.{stated}
 use Rattle.ir_grammar.specs.Attributes.{argument}
-use Rattle.ir_grammar.specs.Operations.{one_more_item, line_set}
+use Rattle.ir_grammar.specs.Operations.{one_more_item}
 use Rattle.ir_grammar.specs.Bodies.{with_instr, one_more_instr, next_block, switch_case}
 use Rattle.ir_grammar.specs.Entities.{global_words, one_linkage, one_global_end, param, next_entity}
 use Rattle.ir_grammar.proofs.FormLaws.{Shape, Law}
-use Rattle.ir_grammar.proofs.Rules.{seq, or, done, begins_with, goes_on_with, law_one_word}
+use Rattle.ir_grammar.proofs.Rules.{seq, or, done, goes_on_with, law_one_word}
 use Rattle.ir_grammar.proofs.LawsOfTokens.{is_sign, is_word, law_number}
 use Rattle.ir_grammar.proofs.LawsOfAttributes.{law_note, law_argument}
-use Rattle.ir_grammar.proofs.LawsOfOperations.{AnyParams, law_next_item, law_instr, call_greedy}
+use Rattle.ir_grammar.proofs.LawsOfOperations.{AnyParams, law_next_item, law_instr}
 use Rattle.ir_grammar.proofs.LawsOfBodies as bodies
 use Rattle.ir_grammar.proofs.LawsOfEntities as entities
 

@@ -1,6 +1,5 @@
-use Rattle.std.proofs.Common.{Bool, true, List, sym, ◌∙◌, refl}
+use Rattle.std.proofs.Common.{sym, ◌∙◌}
 use Rattle.std.proofs.lemmas.Result.{err_from_is_err_and}
-use Rattle.ir_grammar.specs.Forms.{ret, rounds}
 use Rattle.ir_grammar.specs.declared.parts.Progress.{Progress}
 use Rattle.ir_grammar.specs.Tokens.{stated}
 use Rattle.ir_grammar.specs.Bodies.{next_set, next_block, last_blocks, more_blocks}

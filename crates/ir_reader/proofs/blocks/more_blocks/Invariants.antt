@@ -1,8 +1,8 @@
-use Rattle.std.proofs.Common.{◌≡◌, Bool, List, length}
-use Rattle.ir_grammar.specs.Forms.{ret, rounds}
+use Rattle.std.proofs.Common.{◌≡◌, length}
+use Rattle.ir_grammar.specs.Forms.{rounds}
 use Rattle.ir_grammar.specs.declared.parts.Progress.{Progress}
 use Rattle.ir_grammar.specs.Tokens.{stated}
-use Rattle.ir_grammar.specs.Bodies.{next_set, next_block, last_blocks, more_blocks}
+use Rattle.ir_grammar.specs.Bodies.{next_set, next_block, last_blocks}
 use Rattle.ir_reader.proofs.blocks.more_blocks.Given as goal
 
 abbrev pub invariant-loop-reader : goal.invariant-loop-reader

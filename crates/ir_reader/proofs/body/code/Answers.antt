@@ -1,11 +1,11 @@
-use Rattle.std.proofs.Common.{Bool, true, List, sym, ◌∙◌, refl}
+use Rattle.std.proofs.Common.{List, sym, ◌∙◌}
 use Rattle.std.proofs.lemmas.Result.{err_from_is_err_and}
-use Rattle.ir_grammar.specs.Forms.{ret, rounds}
+use Rattle.ir_grammar.specs.Forms.{ret}
 use Rattle.ir_core.specs.declared.func.Instr.{Instr}
 use Rattle.ir_grammar.specs.Tokens.{stated}
 use Rattle.ir_grammar.specs.Operations.{line_set}
 use Rattle.ir_grammar.specs.Bodies.{one_more_instr, code}
-use Rattle.ir_phrases.proofs.Many.{gives_as, round_fails, rounds_end}
+use Rattle.ir_phrases.proofs.Many.{round_fails, rounds_end}
 use Rattle.ir_reader.proofs.RoundLaws.{one_more_line}
 use Rattle.ir_reader.proofs.Loops.{round_less, round_next}
 use Rattle.ir_reader.proofs.body.code.Goals as goal

@@ -1,9 +1,9 @@
-use Rattle.std.proofs.Common.{◌≡◌, Bool, List, length}
+use Rattle.std.proofs.Common.{◌≡◌, List, length}
 use Rattle.ir_grammar.specs.Forms.{ret, rounds}
 use Rattle.ir_core.specs.declared.func.Instr.{Instr}
 use Rattle.ir_grammar.specs.Tokens.{stated}
 use Rattle.ir_grammar.specs.Operations.{line_set}
-use Rattle.ir_grammar.specs.Bodies.{one_more_instr, code}
+use Rattle.ir_grammar.specs.Bodies.{one_more_instr}
 use Rattle.ir_reader.proofs.body.code.Given as goal
 
 abbrev pub invariant-loop-reader : goal.invariant-loop-reader

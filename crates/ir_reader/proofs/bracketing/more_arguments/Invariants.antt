@@ -1,4 +1,4 @@
-use Rattle.std.proofs.Common.{◌≡◌, Bool, List, length}
+use Rattle.std.proofs.Common.{◌≡◌, List, length}
 use Rattle.ir_grammar.specs.Forms.{ret, rounds}
 use Rattle.ir_core.specs.declared.op.TypedOperand.{TypedOperand}
 use Rattle.ir_grammar.specs.Tokens.{stated, sign}

@@ -1,11 +1,11 @@
-use Rattle.std.proofs.Common.{Bool, true, List, sym, ◌∙◌, refl}
+use Rattle.std.proofs.Common.{List, sym, ◌∙◌}
 use Rattle.std.proofs.lemmas.Result.{err_from_is_err_and}
-use Rattle.ir_grammar.specs.Forms.{ret, rounds}
+use Rattle.ir_grammar.specs.Forms.{ret}
 use Rattle.ir_core.specs.declared.func.Param.{Param}
 use Rattle.ir_grammar.specs.Tokens.{stated, sign}
 use Rattle.ir_grammar.specs.Entities.{param}
 use Rattle.ir_grammar.specs.Operations.{one_more_item}
-use Rattle.ir_phrases.proofs.Many.{gives_as, round_fails, rounds_end}
+use Rattle.ir_phrases.proofs.Many.{round_fails, rounds_end}
 use Rattle.ir_reader.proofs.RoundLaws.{one_more_param}
 use Rattle.ir_reader.proofs.Loops.{round_less, round_next}
 use Rattle.ir_reader.proofs.bracketing.more_params.Goals as goal

@@ -1,10 +1,10 @@
-use Rattle.std.proofs.Common.{Bool, true, List, sym, ◌∙◌, refl}
+use Rattle.std.proofs.Common.{sym, ◌∙◌}
 use Rattle.std.proofs.lemmas.Result.{err_from_is_err_and}
-use Rattle.ir_grammar.specs.Forms.{ret, rounds}
-use Rattle.std.specs.Prelude.{ℕ, Option, None}
+use Rattle.ir_grammar.specs.Forms.{ret}
+use Rattle.std.specs.Prelude.{ℕ, Option}
 use Rattle.ir_grammar.specs.Tokens.{stated, sign}
 use Rattle.ir_grammar.specs.Entities.{one_global_end, global_end}
-use Rattle.ir_phrases.proofs.Many.{gives_as, round_fails, rounds_end}
+use Rattle.ir_phrases.proofs.Many.{round_fails, rounds_end}
 use Rattle.ir_reader.proofs.RoundLaws.{one_more_end}
 use Rattle.ir_reader.proofs.Loops.{round_less, round_next}
 use Rattle.ir_reader.proofs.entities.global_end.Goals as goal

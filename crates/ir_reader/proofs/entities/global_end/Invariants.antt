@@ -1,8 +1,8 @@
-use Rattle.std.proofs.Common.{◌≡◌, Bool, List, length}
+use Rattle.std.proofs.Common.{◌≡◌, length}
 use Rattle.ir_grammar.specs.Forms.{ret, rounds}
 use Rattle.std.specs.Prelude.{ℕ, Option, None}
 use Rattle.ir_grammar.specs.Tokens.{stated, sign}
-use Rattle.ir_grammar.specs.Entities.{one_global_end, global_end}
+use Rattle.ir_grammar.specs.Entities.{one_global_end}
 use Rattle.ir_reader.proofs.entities.global_end.Given as goal
 
 abbrev pub invariant-loop-reader : goal.invariant-loop-reader

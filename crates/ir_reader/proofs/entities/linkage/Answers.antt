@@ -1,10 +1,9 @@
-use Rattle.std.proofs.Common.{Bool, true, List, sym, ◌∙◌, refl}
+use Rattle.std.proofs.Common.{Bool, sym, ◌∙◌}
 use Rattle.std.proofs.lemmas.Result.{err_from_is_err_and}
-use Rattle.ir_grammar.specs.Forms.{ret, rounds}
-use Rattle.std.proofs.Common.{false}
+use Rattle.ir_grammar.specs.Forms.{ret}
 use Rattle.ir_grammar.specs.Tokens.{words_of}
 use Rattle.ir_grammar.specs.Entities.{global_words, one_linkage, linkage}
-use Rattle.ir_phrases.proofs.Many.{gives_as, round_fails, rounds_end}
+use Rattle.ir_phrases.proofs.Many.{round_fails, rounds_end}
 use Rattle.ir_reader.proofs.RoundLaws.{one_more_word}
 use Rattle.ir_reader.proofs.Loops.{round_less, round_next}
 use Rattle.ir_reader.proofs.entities.linkage.Goals as goal

@@ -1,8 +1,8 @@
-use Rattle.std.proofs.Common.{◌≡◌, Bool, List, length}
+use Rattle.std.proofs.Common.{◌≡◌, Bool, length}
 use Rattle.ir_grammar.specs.Forms.{ret, rounds}
 use Rattle.std.proofs.Common.{false}
 use Rattle.ir_grammar.specs.Tokens.{words_of}
-use Rattle.ir_grammar.specs.Entities.{global_words, one_linkage, linkage}
+use Rattle.ir_grammar.specs.Entities.{global_words, one_linkage}
 use Rattle.ir_reader.proofs.entities.linkage.Given as goal
 
 abbrev pub invariant-loop-reader : goal.invariant-loop-reader

@@ -1,9 +1,8 @@
-use Rattle.std.proofs.Common.{Bool, true, List, sym, ◌∙◌, refl}
+use Rattle.std.proofs.Common.{sym, ◌∙◌}
 use Rattle.std.proofs.lemmas.Result.{err_from_is_err_and}
-use Rattle.ir_grammar.specs.Forms.{ret, rounds}
 use Rattle.ir_grammar.specs.declared.parts.Draft.{Draft}
 use Rattle.ir_grammar.specs.Tokens.{stated}
-use Rattle.ir_grammar.specs.Entities.{no_entities, next_set, next_entity, text_end, text_form}
+use Rattle.ir_grammar.specs.Entities.{next_set, next_entity, text_end, text_form}
 use Rattle.ir_phrases.proofs.Many.{gives_as, round_fails, rounds_end}
 use Rattle.ir_reader.proofs.RoundLaws.{one_more_entity}
 use Rattle.ir_reader.proofs.Loops.{round_less, round_next}

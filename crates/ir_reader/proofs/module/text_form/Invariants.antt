@@ -1,8 +1,8 @@
-use Rattle.std.proofs.Common.{◌≡◌, Bool, List, length}
-use Rattle.ir_grammar.specs.Forms.{ret, rounds}
+use Rattle.std.proofs.Common.{◌≡◌, length}
+use Rattle.ir_grammar.specs.Forms.{rounds}
 use Rattle.ir_grammar.specs.declared.parts.Draft.{Draft}
 use Rattle.ir_grammar.specs.Tokens.{stated}
-use Rattle.ir_grammar.specs.Entities.{no_entities, next_set, next_entity, text_end, text_form}
+use Rattle.ir_grammar.specs.Entities.{no_entities, next_set, next_entity, text_end}
 use Rattle.ir_reader.proofs.module.text_form.Given as goal
 
 abbrev pub invariant-loop-reader : goal.invariant-loop-reader

@@ -1,4 +1,3 @@
-use Rattle.std.proofs.Common.{◌∙◌}
 use Rattle.ir_phrases.proofs.Numbered.{among_step}
 use Rattle.ir_phrases.proofs.table.Table.of.Goals as goal
 
