@@ -300,7 +300,7 @@ fn faults(rt: HostRuntime) -> Result<(), Fail> {
 fn push_names(told: &mut String, names: &[Text]) -> Result<(), Fail> {
     for name in names {
         told.push_str(" ")?;
-        told.push_str(core::str::from_utf8(name.as_slice()).map_err(|_| "no text")?)?;
+        told.push_str(std::str::from_utf8(name.as_slice()).map_err(|_| "no text")?)?;
     }
     Ok(())
 }
