@@ -13,6 +13,9 @@ mod Reaching
 mod TypeNameLaws
 mod InParts
 mod AlignLaws
+mod SizeLevels
+mod LaidUses
+mod SizeLaws
 mod TypeLevels
 mod ConstLevels
 mod TargetLaws

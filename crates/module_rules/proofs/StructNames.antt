@@ -39,14 +39,14 @@ module _ (by : IrType → IrType) where
 
 -- ---- structs
 
-abbrev IsStruct : IrType → Type 0
+abbrev pub IsStruct : IrType → Type 0
 IsStruct t = (fields : List IrType) × (out-IrType t ≡ IrType-F.Struct fields)
 
 pub resolved_itself : (n : ℕ) (defs : List TypeDef) (t : IrType) → name_of t ≡ None → resolved n defs t ≡ t
 resolved_itself zero defs t e = refl
 resolved_itself (suc n) defs t e = ap (λ (o : Option TypeName). option_map_or (λ (d : TypeDef). resolved n defs d.ty) (option_and_then (definition defs) o) t) e
 
-name_no_struct : (x : TypeName) → IsStruct (Named x) → ⊥
+pub name_no_struct : (x : TypeName) → IsStruct (Named x) → ⊥
 name_no_struct x s = let clash : IrType-F.Named x ≡ IrType-F.Struct s.0 = sym (outs-Named x) ∙ s.1 in cc
 
 no_array : (k : ℕ) (item : IrType) → IsStruct (types.Array k item) → ⊥
