@@ -27,7 +27,7 @@ undefined_itself zero defs x e = refl
 undefined_itself (suc n) defs x e = ap (λ (o : Option TypeDef). option_map_or (λ (d : TypeDef). resolved n defs d.ty) o (Named x)) e
 
 module _ (m : Module) (unbroken : (p : Place) → BreaksTypeNames m p → ⊥) where
-  among : TypeName → Bool
+  abbrev among : TypeName → Bool
   among x = list_any (nat_eq x.0) (used_numbers m)
 
   use_no_void : (u : TypeUse) → Contains (type_uses m) u → u.is_result ≡ false → HasNoVoid u.ty
@@ -35,7 +35,7 @@ module _ (m : Module) (unbroken : (p : Place) → BreaksTypeNames m p → ⊥) w
     where
       by_test : (t : Bool) → has_void u.ty ≡ t → HasNoVoid u.ty
       by_test false e = no_void u.ty e
-      by_test true e = absurd (unbroken u.place (inl (u, c, refl, some_void u.ty e, λ r. false_is_not_true (sym value ∙ r.0))))
+      by_test true e = absurd (unbroken u.place (inl (u, c, refl, (some_void u.ty e, λ r. false_is_not_true (sym value ∙ r.0)))))
 
   def_is_use : (d : TypeDef) → Has m.types.defs d → Contains (type_uses m) (value_use d.place d.ty)
   def_is_use d h =
@@ -66,7 +66,7 @@ module _ (m : Module) (unbroken : (p : Place) → BreaksTypeNames m p → ⊥) w
       by_test true e = (struct_decides m.types.defs x).0 e
       by_test false e =
           let u = used_sound m x is in
-          absurd (unbroken u.0.place (inr (inl (u.0, u.1, refl, x, u.2, λ s. false_is_not_true (sym e ∙ (struct_decides m.types.defs x).1 s)))))
+          absurd (unbroken u.0.place (inr (inl (u.0, u.1, refl, (x, u.2, λ s. false_is_not_true (sym e ∙ (struct_decides m.types.defs x).1 s))))))
 
   has_definition : (x : TypeName) → StandsForStruct m.types.defs x → (d : TypeDef) × (definition m.types.defs x ≡ Some d)
   has_definition x s = by_definition (definition m.types.defs x) refl

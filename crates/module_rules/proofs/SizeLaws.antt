@@ -9,7 +9,7 @@ use Rattle.std.proofs.lemmas.List.{length-map}
 use Rattle.ir_core.specs.declared.layout.Layout.{Layout}
 use Rattle.ir_core.specs.declared.ty.TypeName.{TypeName}
 use Rattle.ir_core.specs.declared.ty.TypeDef.{TypeDef}
-use Rattle.ir_core.specs.declared.ty.IrType.{IrType, Void, Int, Ptr, Array', Struct', Named, Row_of-IrType, end_of-IrType, more_of-IrType, items-the_row-IrType, out-IrType}
+use Rattle.ir_core.specs.declared.ty.IrType.{IrType, Void, Int, Ptr, Array', Struct', Named, Row_of-IrType, end_of-IrType, more_of-IrType, items-the_row-IrType, items_shown-the_row-IrType-1, out-IrType}
 use Rattle.ir_core.specs.declared.ty.IrType.TheOpen.{IrType-F}
 use Rattle.ir_core.specs.declared.ty.IrType.TheVariants as types
 use Rattle.ir_core.specs.declared.ty.IrType.TheVariants.{outs-Void, outs-Int, outs-Ptr, outs-Array, outs-Struct', outs-Named}
@@ -85,7 +85,7 @@ named_struct_laid f ns e x h =
 
 -- ---- levels of types
 
-level : List TypeDef → IrType-F IrType → List IrType
+abbrev level : List TypeDef → IrType-F IrType → List IrType
 level defs IrType-F.Void = []
 level defs (IrType-F.Int w) = []
 level defs IrType-F.Ptr = []
@@ -102,6 +102,9 @@ is_inside defs t l e v h = contains (directly_in defs t) v (subst (λ (k : IrTyp
 array_out : (n : ℕ) (m : _) (item : IrType) → out-IrType (Array' n m (more_of-IrType item end_of-IrType)) ≡ IrType-F.Array n item
 unfolding Rattle.ir_core.specs.declared.ty.IrType.TheBlock.hidden-the_row-IrType-0 denote.Hole.Carrier.hidden
 array_out n m item = outs-Array n item
+
+struct_out : (m : _) (fields : _) → out-IrType (Struct' m fields) ≡ IrType-F.Struct (items-the_row-IrType _ fields)
+struct_out m fields = outs-Struct' m fields ∙ ap IrType-F.Struct (items_shown-the_row-IrType-1 m fields)
 
 module _ (defs : List TypeDef) where
   -- what stands in a type that stands in another
@@ -129,7 +132,7 @@ module _ (defs : List TypeDef) where
         (one_true (is_above defs (Array' n m (more_of-IrType item end_of-IrType))) (have_above defs (more_of-IrType item end_of-IrType)) e)
     above_in (Struct' m fields) e =
         ⊎_elim (itself (Struct' m fields))
-        (λ b. let r = above_in_row fields b in step_in (Struct' m fields) r.0 (is_inside defs (Struct' m fields) (IrType-F.Struct (items-the_row-IrType _ fields)) (outs-Struct' m fields) r.0 r.1) r.2)
+        (λ b. let r = above_in_row fields b in step_in (Struct' m fields) r.0 (is_inside defs (Struct' m fields) (IrType-F.Struct (items-the_row-IrType _ fields)) (struct_out m fields) r.0 r.1) r.2)
         (one_true (is_above defs (Struct' m fields)) (have_above defs fields) e)
 
     above_in_row : {m : _} (row : Row_of-IrType m) → have_above defs row ≡ true → (v : IrType) × Has (items-the_row-IrType m row) v × IsTooLarge defs v
@@ -150,7 +153,7 @@ module _ (defs : List TypeDef) where
         (⊎_elim (λ g. through item x g large) (λ g. absurd g) (has_in (names_in_type item) [] x h))
     through (Struct' m fields) x h large =
         let r = through_row fields x h large in
-        step_in (Struct' m fields) r.0 (is_inside defs (Struct' m fields) (IrType-F.Struct (items-the_row-IrType _ fields)) (outs-Struct' m fields) r.0 r.1) r.2
+        step_in (Struct' m fields) r.0 (is_inside defs (Struct' m fields) (IrType-F.Struct (items-the_row-IrType _ fields)) (struct_out m fields) r.0 r.1) r.2
 
     through_row : {m : _} (row : Row_of-IrType m) (x : TypeName) → Has (names_in_types row) x → IsTooLarge defs (Named x) → (v : IrType) × Has (items-the_row-IrType m row) v × IsTooLarge defs v
     through_row end_of-IrType x h large = absurd h
@@ -243,7 +246,7 @@ module _ (defs : List TypeDef) where
           subst Fine same (b.0, λ x g. f.1 x (has_left (names_in_type item) [] x g))
   fine_direct (Struct' m fields) v f h =
       fine_row fields (both_false (is_above defs (Struct' m fields)) (have_above defs fields) f.0).1 f.1 v
-      (inside_is defs (Struct' m fields) (IrType-F.Struct (items-the_row-IrType _ fields)) (outs-Struct' m fields) v h)
+      (inside_is defs (Struct' m fields) (IrType-F.Struct (items-the_row-IrType _ fields)) (struct_out m fields) v h)
   fine_direct (Named x) v f h = by_definition (definition defs x) refl (inside_is defs (Named x) (IrType-F.Named x) (outs-Named x) v h)
     where
       by_definition : (o : Option TypeDef) → definition defs x ≡ o → Has (map (λ (b : TypeDef). b.ty) (listed o)) v → Fine v
