@@ -6,7 +6,7 @@ use Rattle.std.specs.Option.{option_map_or}
 use Rattle.oi_base.specs.declared.ids.Place.{Place}
 use Rattle.ir_core.specs.declared.ty.TypeName.{TypeName}
 use Rattle.ir_core.specs.declared.ty.TypeDef.{TypeDef}
-use Rattle.ir_core.specs.declared.ty.IrType.{IrType, Named}
+use Rattle.ir_core.specs.declared.ty.IrType.{Named}
 use Rattle.ir_core.specs.declared.module.Module.{Module}
 use Rattle.ir_core.specs.Acyclic.{HasNoVoid, HoldsItself, IsAcyclic}
 use Rattle.ir_core.specs.Parts.{names_in_type}
@@ -17,7 +17,6 @@ use Rattle.ir_core.proofs.Lists.{Has, has_left, has_at, contains}
 use Rattle.ir_core.proofs.Names.{defined}
 use Rattle.module_rules.specs.TypeFaults.{has_void, emptied_defs, is_laid_name, def_use, global_uses}
 use Rattle.module_rules.proofs.Decided.{false_is_not_true}
-use Rattle.module_rules.proofs.Faulty.{has}
 use Rattle.module_rules.proofs.StructNames.{IsStruct, struct_decides, name_no_struct}
 use Rattle.module_rules.proofs.UseLaws.{no_void, some_void, used_numbers, used_sound, used_complete}
 

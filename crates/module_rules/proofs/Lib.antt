@@ -16,6 +16,8 @@ mod AlignLaws
 mod SizeLevels
 mod LaidUses
 mod SizeLaws
+mod SizeUses
+mod SizePlaces
 mod TypeLevels
 mod ConstLevels
 mod TargetLaws

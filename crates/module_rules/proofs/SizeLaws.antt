@@ -1,7 +1,7 @@
 -- The test for types that are too large tells whether one is, where types have layouts.
-use Rattle.std.proofs.Common.{◌≡◌, ◌⊎◌, inl, inr, refl, sym, ap, ◌∙◌, subst, ⊎_elim, Bool, true, false, not, ◌||◌, if◌then◌else◌, nat_lt, ℕ, ◌<◌, zero, suc, List, [], ◌∷◌, ◌++◌, map, length, Option, Some, None, is_some, Contains, arith}
+use Rattle.std.proofs.Common.{◌≡◌, inl, inr, refl, sym, ap, ◌∙◌, subst, ⊎_elim, Bool, true, false, not, ◌||◌, if◌then◌else◌, ℕ, zero, suc, List, [], ◌∷◌, map, length, Option, Some, None, is_some, Contains, arith}
 use Rattle.std.specs.Prelude.{IsSome}
-use Rattle.std.specs.List.{flat_map, list_any, list_all}
+use Rattle.std.specs.List.{flat_map, list_all}
 use Rattle.std.specs.Bool.{Decides}
 use Rattle.std.specs.Option.{option_map, option_and_then}
 use Rattle.std.proofs.lemmas.Bool.Decides.{nat_tests}
@@ -14,16 +14,15 @@ use Rattle.ir_core.specs.declared.ty.IrType.TheOpen.{IrType-F}
 use Rattle.ir_core.specs.declared.ty.IrType.TheVariants as types
 use Rattle.ir_core.specs.declared.ty.IrType.TheVariants.{outs-Void, outs-Int, outs-Ptr, outs-Array, outs-Struct', outs-Named}
 use Rattle.ir_core.specs.Parts.{listed, names_in_type, names_in_types}
-use Rattle.ir_core.specs.Sizes.{array_of, empty, behind, rounded, placed, layout_by, field_layouts, definition, name_layout, layout, IsLaid, size}
+use Rattle.ir_core.specs.Sizes.{array_of, empty, behind, rounded, placed, layout_by, field_layouts, definition, name_layout, layout, IsLaid}
 use Rattle.ir_core.specs.ValidTypes.{directly_in, LeadsInto, StandsIn, IsTooLarge}
 use Rattle.ir_core.proofs.Layouts.{at_struct}
-use Rattle.ir_core.proofs.Lists.{Has, has_left, has_right, has_part, contains}
+use Rattle.ir_core.proofs.Lists.{Has, has_left, has_right, contains}
 use Rattle.ir_core.proofs.Names.{deeper, some_value}
 use Rattle.module_rules.specs.TypeFaults.{is_laid_name}
 use Rattle.module_rules.specs.SizeFaults.{is_above, has_above, have_above, small_type, small_def, small_defs, is_too_large}
 use Rattle.module_rules.proofs.Decided.{false_is_not_true, some_fails, passes}
 use Rattle.module_rules.proofs.Faulty.{has, has_in}
-use Rattle.module_rules.proofs.Sets.{has_made}
 use Rattle.module_rules.proofs.SizeLevels.{above_itself}
 use Rattle.module_rules.proofs.StructNames.{definition_by}
 use Rattle.module_rules.proofs.TypeLevels.{struct_names}

@@ -1,5 +1,5 @@
 -- The places at which a type of a module is wrong, or a used name is defined again.
-use Rattle.std.proofs.Common.{◌≡◌, ◌⊎◌, inl, inr, refl, sym, ap, ◌∙◌, subst, ⊎_elim, Bool, true, false, not, ◌&&◌, ◌||◌, if◌then◌else◌, nat_eq, ℕ, zero, suc, ◌<◌, List, [], ◌∷◌, ◌++◌, map, Option, Some, None, slice_get, Contains, arith}
+use Rattle.std.proofs.Common.{◌≡◌, ◌⊎◌, inl, inr, refl, sym, ap, ◌∙◌, subst, ⊎_elim, Bool, true, false, not, ◌&&◌, ◌||◌, if◌then◌else◌, nat_eq, ℕ, zero, suc, ◌<◌, List, [], ◌∷◌, ◌++◌, map, Some, None, slice_get, Contains, arith}
 use Rattle.std.specs.List.{flat_map, list_any, list_all}
 use Rattle.std.specs.Bool.{Decides}
 use Rattle.std.proofs.lemmas.Grind.{flat_map-append}
@@ -16,9 +16,9 @@ use Rattle.ir_core.specs.declared.func.Block.{Block}
 use Rattle.ir_core.specs.declared.func.Func.{Func}
 use Rattle.ir_core.specs.Parts.{names_in_type}
 use Rattle.ir_core.specs.Acyclic.{HasNoVoid, HaveNoVoid}
-use Rattle.ir_core.specs.Stands.{Step, Does, Ends, block_steps, steps}
-use Rattle.ir_core.specs.ValidTypes.{TypeUse, result_use, value_uses, step_uses, func_uses, type_uses, AtType, HasVoid, NamesNoStruct, IsUsed, IsDefinedAgain, StandsForStruct}
-use Rattle.ir_core.proofs.Lists.{Has, has_left, has_right, has_part, has_at, at_has, contains}
+use Rattle.ir_core.specs.Stands.{Does, Ends, block_steps}
+use Rattle.ir_core.specs.ValidTypes.{TypeUse, result_use, value_uses, step_uses, func_uses, type_uses, HasVoid, NamesNoStruct, IsUsed, IsDefinedAgain}
+use Rattle.ir_core.proofs.Lists.{Has, has_left, has_right, has_part, contains}
 use Rattle.module_rules.specs.First.{earlier, earliest, IsFound}
 use Rattle.module_rules.specs.Faults.{place_if, with_number, with_numbers}
 use Rattle.module_rules.specs.TypeFaults.{has_void, have_void, is_void, is_void_wrongly, emptied_defs, is_laid_name, Seen, type_number, is_bad_use, with_use, with_uses, no_uses, def_use, global_uses, code_uses, block_uses, param_types, func_uses_by_block, uses_of, BreaksUses, again_faults}

@@ -1,5 +1,5 @@
 -- Where the rule of sizes is broken.
-use Rattle.std.specs.Prelude.{ℕ, ◌*◌, nat_eq, nat_lt, nat_le, ℤ, pos, negsuc, Bool, true, false, not, ◌&&◌, ◌||◌, if◌then◌else◌, List, [], ◌∷◌, ◌++◌, map, Option, Some, None}
+use Rattle.std.specs.Prelude.{ℕ, ◌*◌, nat_lt, ℤ, pos, negsuc, Bool, false, not, ◌||◌, if◌then◌else◌, List, ◌∷◌, ◌++◌, map, Some}
 use Rattle.std.specs.List.{flat_map, list_any, list_all}
 use Rattle.oi_base.specs.declared.ids.Place.{Place}
 use Rattle.ir_core.specs.declared.ty.TypeName.{TypeName}
@@ -7,17 +7,14 @@ use Rattle.ir_core.specs.declared.ty.TypeDef.{TypeDef}
 use Rattle.ir_core.specs.declared.ty.IrType.{IrType, Void, Int, Ptr, Array', Struct', Named, Row_of-IrType, end_of-IrType, more_of-IrType}
 use Rattle.ir_core.specs.declared.ty.IrType.TheVariants as types
 use Rattle.ir_core.specs.declared.constant.TypedConst.{TypedConst}
-use Rattle.ir_core.specs.declared.constant.TypedCount.{TypedCount}
 use Rattle.ir_core.specs.declared.module.GlobalVar.{GlobalVar}
 use Rattle.ir_core.specs.declared.module.Module.{Module}
 use Rattle.ir_core.specs.declared.op.Op.{Op}
-use Rattle.ir_core.specs.declared.op.Op.TheVariants.{Alloca, Load, Store}
+use Rattle.ir_core.specs.declared.op.Op.TheVariants.{Alloca}
 use Rattle.ir_core.specs.declared.op.End.{End}
-use Rattle.ir_core.specs.declared.func.Instr.{Instr}
-use Rattle.ir_core.specs.declared.func.Block.{Block}
 use Rattle.ir_core.specs.declared.func.Func.{Func}
 use Rattle.ir_core.specs.Parts.{names_in_type, op_values, end_values}
-use Rattle.ir_core.specs.Sizes.{size, align}
+use Rattle.ir_core.specs.Sizes.{size}
 use Rattle.ir_core.specs.Stands.{Step, Does, Ends}
 use Rattle.ir_core.specs.ValidTypes.{const_sources, sources_in_values, op_sized}
 use Rattle.module_rules.specs.Faults.{place_if, step_faults}

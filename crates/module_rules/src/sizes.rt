@@ -24,6 +24,13 @@ pub fn first_break(alloc: Global, m: &Module) -> Result<Option<Place>, NoMemory>
     requires type_names { (p : places.Place) → BreaksTypeNames m.now p → ⊥ }
     ensures found { IfOk result (IsFound (BreaksSizes m.now)) }
 {
+    first_large(alloc, m)
+}
+
+/// The first place at which the test for types that are too large finds one.
+pub(crate) fn first_large(alloc: Global, m: &Module) -> Result<Option<Place>, NoMemory>
+    ensures { IfOk result (λ first. first ≡ earliest None (size_faults m.now (small_defs m.now.types.defs))) }
+{
     let small = TypeDefs::of(alloc, small_defs(alloc, m)?)?;
     Ok(first_fault(m, &small))
 }

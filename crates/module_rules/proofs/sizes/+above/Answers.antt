@@ -1,6 +1,5 @@
 use Rattle.std.proofs.Common.{sym, ap, ◌∙◌}
 use Rattle.std.specs.List.{list_any}
-use Rattle.ir_core.specs.declared.ty.IrType.{IrType}
 use Rattle.module_rules.specs.SizeFaults.{is_above, has_above}
 use Rattle.module_rules.proofs.SizeLevels.{above_itself, array_above, struct_above}
 use Rattle.module_rules.proofs.sizes.+above.Goals as goal
