@@ -13,6 +13,11 @@ mod Reaching
 mod TypeNameLaws
 mod InParts
 mod AlignLaws
+mod SizeLevels
+mod LaidUses
+mod SizeLaws
+mod SizeUses
+mod SizePlaces
 mod TypeLevels
 mod ConstLevels
 mod TargetLaws

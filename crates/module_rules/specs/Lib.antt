@@ -6,3 +6,4 @@ pub mod SymbolFaults
 pub mod TypeFaults
 pub mod Cycles
 pub mod AlignFaults
+pub mod SizeFaults

@@ -10,6 +10,7 @@ pub mod has_main;
 mod integers;
 mod measure;
 mod numbers;
+pub mod sizes;
 mod struct_names;
 pub mod symbols;
 pub mod target;
