@@ -1,8 +1,16 @@
 ghost use Rattle.std.specs.Prelude.{◌≡◌};
 ghost use Rattle.ir_verifier.specs.CallFaults.{same_width, same_kind, same_kinds};
+ghost use Rattle.ir_verifier.specs.TypeFaults.{is_scalar};
 
 use ir_core::{IrType, Param, TypedOperand};
 use oi_base::Width;
+
+/// Whether it is a type of registers.
+pub fn is_scalar(t: &IrType) -> bool
+    ensures { result ≡ is_scalar t.now }
+{
+    matches!(t, IrType::Int(_) | IrType::Ptr)
+}
 
 /// Whether both types are `void`, both `ptr`, or both integers of one width.
 pub fn same_kind(t: &IrType, u: &IrType) -> bool

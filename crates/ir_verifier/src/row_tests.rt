@@ -6,7 +6,7 @@ ghost use Rattle.ir_core.specs.ValidConsts.{FitsType};
 ghost use Rattle.ir_verifier.specs.PhiFaults.{IsMeasured, AreMeasured, IsMeasuredBlock};
 
 use crate::predecessors::Predecessors;
-use crate::walk::is_scalar;
+use crate::kinds::is_scalar;
 use crate::{phis, types};
 use ir_core::{
     BinOp, Block, CastOp, Cmp, Const, End, Func, Instr, IrType, LocalId, Module, NamedTypes, Op,

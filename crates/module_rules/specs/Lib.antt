@@ -5,3 +5,6 @@ pub mod Target
 pub mod SymbolFaults
 pub mod TypeFaults
 pub mod Cycles
+pub mod Walks
+pub mod SameTypes
+pub mod InitFaults

@@ -6,8 +6,12 @@ mod components;
 mod cycles;
 mod first;
 pub mod has_main;
+pub mod initialisers;
+#[cfg(test)]
+mod init_tests;
 mod integers;
 mod numbers;
+mod same_types;
 mod struct_names;
 pub mod symbols;
 pub mod target;
@@ -17,8 +21,11 @@ pub mod type_names;
 mod type_parts;
 mod type_uses;
 mod variables;
+mod walk;
 
 pub use first::{earlier, earlier_if, is_up_to};
 pub use integers::{count_fits, counts_fit, fits_type, is_bit, is_pointer, words};
 pub use numbers::Numbers;
+pub use same_types::{same_type, same_width};
 pub use variables::global_numbers;
+pub use walk::{const_walks, is_integer, next_by, walks};

@@ -60,7 +60,7 @@ fn push_function(alloc: Global, m: &mut Module, text: &str, number: u32) -> Resu
     m.funcs.push(func)
 }
 
-fn module(alloc: Global, text: &str) -> Result<Module, NoMemory> {
+pub fn module(alloc: Global, text: &str) -> Result<Module, NoMemory> {
     let mut m = Module {
         symbols: Items::new(alloc),
         types: NamedTypes {
@@ -149,7 +149,7 @@ D{} C{} E{} B{{p}};A {B0B{i}} {}|5
 C{} A{i} AC Di B{};D0 B2 D|6
 DE B{{p}} E{C3} C{};i A11 {E0{E}}|6";
 
-fn named_types(alloc: Global, defs: Items<TypeDef>) -> Result<NamedTypes, NoMemory> {
+pub fn named_types(alloc: Global, defs: Items<TypeDef>) -> Result<NamedTypes, NoMemory> {
     let mut names = Items::new(alloc);
     for letter in b'A'..=b'Z' {
         names.push(Text::from_slice(alloc, &[letter])?)?;
@@ -162,6 +162,7 @@ fn named_types(alloc: Global, defs: Items<TypeDef>) -> Result<NamedTypes, NoMemo
 
 fn letter_type(letter: char) -> IrType {
     match letter {
+        'o' => IrType::Int(Width::W1),
         'b' => IrType::Int(Width::W8),
         'h' => IrType::Int(Width::W16),
         'i' => IrType::Int(Width::W32),
@@ -188,7 +189,7 @@ fn take(levels: &mut Vec<Items<IrType>>) -> IrType {
     }
 }
 
-fn type_of(alloc: Global, text: &str) -> Result<IrType, AllocError> {
+pub fn type_of(alloc: Global, text: &str) -> Result<IrType, AllocError> {
     let mut levels = Vec::new(alloc);
     levels.push(Items::new(alloc))?;
     for letter in text.chars() {
@@ -243,7 +244,7 @@ fn with_types(alloc: Global, text: &str) -> Result<Module, NoMemory> {
     Ok(m)
 }
 
-fn line_of(found: Option<Place>) -> u32 {
+pub fn line_of(found: Option<Place>) -> u32 {
     match found {
         Some(place) => place.line,
         None => 0,
