@@ -7,6 +7,7 @@ use Rattle.oi_base.specs.declared.words.Width.TheVariants.{W1, W8, W16, W32}
 use Rattle.ir_core.specs.declared.ty.TypeDef.{TypeDef}
 use Rattle.ir_core.specs.declared.ty.IrType.{IrType, Void, Int, Ptr, Array', Struct', Named, out-IrType}
 use Rattle.ir_core.specs.declared.ty.IrType.TheOpen.{IrType-F}
+use Rattle.ir_core.specs.declared.module.SymId.{SymId}
 use Rattle.ir_core.specs.declared.module.GlobalVar.{GlobalVar}
 use Rattle.ir_core.specs.declared.module.Module.{Module}
 use Rattle.ir_core.specs.declared.constant.Const.{Const, Row_of-TypedConst, end_of-TypedConst, more_of-TypedConst}
@@ -65,8 +66,8 @@ struct_decides test Are d (IrType-F.Int w) = never (λ h. let clash : IrType-F.I
 struct_decides test Are d IrType-F.Ptr = never (λ h. let clash : IrType-F.Ptr ≡ IrType-F.Struct h.0 = h.1 in cc)
 struct_decides test Are d (IrType-F.Array k u) = never (λ h. let clash : IrType-F.Array k u ≡ IrType-F.Struct h.0 = h.1 in cc)
 struct_decides test Are d (IrType-F.Struct us) = (
-    λ e. (us, refl, (d us).0 e),
-    λ h. (d us).1 (let e : IrType-F.Struct us ≡ IrType-F.Struct h.0 = h.1 in let same : h.0 ≡ us = cc in subst Are same h.2),
+  λ e. (us, refl, (d us).0 e),
+  λ h. (d us).1 (let e : IrType-F.Struct us ≡ IrType-F.Struct h.0 = h.1 in let same : h.0 ≡ us = cc in subst Are same h.2),
 )
 struct_decides test Are d (IrType-F.Named x) = never (λ h. let clash : IrType-F.Named x ≡ IrType-F.Struct h.0 = h.1 in cc)
 
@@ -89,11 +90,17 @@ string_decides n (IrType-F.Array k u) = (of_test, to_test)
 string_decides n (IrType-F.Struct types) = never (λ h. cc)
 string_decides n (IrType-F.Named x) = never (λ h. cc)
 
--- three tests one after the other
+-- several tests one after the other
 three : {P Q R : Type 0} (p q r : Bool) → Decides p P → Decides q Q → Decides r R → Decides ((p && q) && r) (P × Q × R)
 three true true r a b c = (λ e. (a.0 refl, b.0 refl, c.0 e), λ h. c.1 h.2)
 three true false r a b c = never (λ h. false_is_not_true (b.1 h.1))
 three false q r a b c = never (λ h. false_is_not_true (a.1 h.0))
+
+four : {P Q R S : Type 0} (p q r s : Bool) → Decides p P → Decides q Q → Decides r R → Decides s S → Decides (p && (q && (r && s))) (P × Q × R × S)
+four true true true s a b c d = (λ e. (a.0 refl, b.0 refl, c.0 refl, d.0 e), λ h. d.1 h.3)
+four true true false s a b c d = never (λ h. false_is_not_true (c.1 h.2))
+four true false r s a b c d = never (λ h. false_is_not_true (b.1 h.1))
+four false q r s a b c d = never (λ h. false_is_not_true (a.1 h.0))
 
 module _ (m : Module) where
   abbrev Defs : List TypeDef
@@ -104,12 +111,11 @@ module _ (m : Module) where
 
   -- ---- initialisers
 
-  gep_decides : (source : IrType) (s : _) (is : List TypedCount) (t : IrType) → Decides (has_type Defs Names (consts.Gep source s is) t) (HasType m (consts.Gep source s is) t)
+  gep_decides : (source : IrType) (s : SymId) (is : List TypedCount) (t : IrType) → Decides (has_type Defs Names (consts.Gep source s is) t) (HasType m (consts.Gep source s is) t)
   gep_decides source s is t =
-      Decides-and (is_pointer (plain Defs t)) (is_among Names s && (walks Defs source (map const_index is) && list_all count_fits is)) (pointer_decides (plain Defs t))
-      (Decides-and (is_among Names s) (walks Defs source (map const_index is) && list_all count_fits is) (variable_decides m s)
-      (Decides-and (walks Defs source (map const_index is)) (list_all count_fits is) (walk_decides Defs (map const_index is) source)
-      (each count_fits (λ (i : TypedCount). FitsType i.ty i.count) count_decides is)))
+      four (is_pointer (plain Defs t)) (is_among Names s) (walks Defs source (map const_index is)) (list_all count_fits is)
+      (pointer_decides (plain Defs t)) (variable_decides m s) (walk_decides Defs (map const_index is) source)
+      (each count_fits (λ (i : TypedCount). FitsType i.ty i.count) count_decides is)
 
   mutual
     init_decides : (c : Const) (t : IrType) → Decides (has_type Defs Names c t) (HasType m c t)

@@ -42,6 +42,7 @@ module _ (defs : List TypeDef) (names : List ℕ) where
   row_fields _ (more_of-TypedConst t c cs) (u ∷ us) = ap (λ (b : Bool). is_item defs names u (record { ty = t; value = c }) && b) (row_fields _ cs us)
 
   pub array_has : (items : List TypedConst) (t : IrType) → has_type defs names (consts.Array items) t ≡ is_array_of (length items) (λ (u : IrType). list_all (is_item defs names u) items) (out-IrType (plain defs t))
+  unfolding hidden-the_row-TypedConst-0
   array_has items t =
       array_tests _ (length items) _ (λ (u : IrType). list_all (is_item defs names u) items) (out-IrType (plain defs t))
       (length-map items (λ (c : TypedConst). tt))

@@ -6,9 +6,9 @@ mod components;
 mod cycles;
 mod first;
 pub mod has_main;
-pub mod initialisers;
 #[cfg(test)]
 mod init_tests;
+pub mod initialisers;
 mod integers;
 mod numbers;
 mod same_types;
