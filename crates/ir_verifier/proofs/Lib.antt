@@ -17,3 +17,4 @@ mod PredecessorLaws
 mod ValueLaws
 mod PhiLaws
 mod Measured
+mod SimpleRows

@@ -24,7 +24,7 @@ use Rattle.module_rules.proofs.Decided.{always, never, passes, false_is_not_true
 use Rattle.module_rules.proofs.Earliest.{found}
 use Rattle.module_rules.proofs.Faulty.{has}
 use Rattle.module_rules.proofs.Faulty.{has_fault, fault_has}
-use Rattle.module_rules.proofs.Listing.{same_local}
+use Rattle.module_rules.proofs.Sets.{local_of as same_local}
 use Rattle.module_rules.proofs.Sets.{number_decides, has_made}
 use Rattle.ir_verifier.proofs.PredecessorLaws.{of_one, to_one, HasSources, block_sources}
 use Rattle.ir_verifier.proofs.ValueLaws.{of_same, to_same, Knows, IsFine, knows_label, one_value, some_value, More, not_listed, keeps, knows_new, knew, more_fine}

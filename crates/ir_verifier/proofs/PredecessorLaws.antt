@@ -15,7 +15,7 @@ use Rattle.module_rules.specs.Faults.{with_number}
 use Rattle.ir_verifier.specs.Faults.{label_number, label_numbers}
 use Rattle.ir_verifier.specs.PhiFaults.{Sources, row_at, no_rows, with_row, with_source, with_sources, with_block, sources_of}
 use Rattle.module_rules.proofs.Faulty.{has}
-use Rattle.module_rules.proofs.Listing.{same_local}
+use Rattle.module_rules.proofs.Sets.{local_of as same_local}
 use Rattle.module_rules.proofs.Distinct.{position_is, no_position}
 use Rattle.module_rules.proofs.Sets.{in_numbers, numbers_in, mapped_has}
 

@@ -24,7 +24,7 @@ use Rattle.module_rules.proofs.Decided.{always, never, false_is_not_true}
 use Rattle.module_rules.proofs.Faulty.{has}
 use Rattle.ir_verifier.proofs.KindLaws.{of_kind, kind_of_scalar, kind_of_result}
 use Rattle.module_rules.proofs.Sets.{number_decides, in_numbers, numbers_in as numbers_has, has_made}
-use Rattle.module_rules.proofs.Listing.{same_local}
+use Rattle.module_rules.proofs.Sets.{local_of as same_local}
 
 -- ---- kinds of types
 

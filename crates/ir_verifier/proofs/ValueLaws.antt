@@ -14,7 +14,7 @@ use Rattle.module_rules.proofs.Decided.{false_is_not_true}
 use Rattle.module_rules.proofs.Distinct.{IsDistinct, position_is, no_position, at_in_first, at_in_next}
 use Rattle.module_rules.proofs.Sets.{number_decides}
 use Rattle.module_rules.proofs.SameTypeLaws.{two_true}
-use Rattle.module_rules.proofs.Listing.{same_local}
+use Rattle.module_rules.proofs.Sets.{local_of as same_local}
 use Rattle.module_rules.proofs.Sets.{symbol_of}
 
 both : (g h : SymId) (a b : ℕ) → nat_eq g.0 h.0 ≡ true → nat_eq a b ≡ true → IsAddress g a ≡ IsAddress h b

@@ -1,19 +1,15 @@
-ghost use Rattle.std.specs.Prelude.{◌≡◌, List, [], ◌∷◌, All, IsTrue};
+ghost use Rattle.std.specs.Prelude.{List, All, IsTrue};
 ghost use Rattle.ir_core.specs.declared.ty.TypeDef as defs;
-ghost use Rattle.ir_core.specs.declared.constant.TypedCount as counts;
 ghost use Rattle.ir_core.specs.declared.op.Operand.TheVariants as operands;
-ghost use Rattle.ir_core.specs.ValidConsts.{FitsType};
 ghost use Rattle.ir_verifier.specs.PhiFaults.{IsMeasured, AreMeasured, IsMeasuredBlock};
 
 use crate::predecessors::Predecessors;
-use crate::kinds::is_scalar;
 use crate::{phis, types};
 use ir_core::{
     BinOp, Block, CastOp, Cmp, Const, End, Func, Instr, IrType, LocalId, Module, NamedTypes, Op,
     Operand, Pair, Param, Short, SwitchCase, SymId, TypeDef, TypeDefs, TypeName, TypedCount,
     TypedOperand, Types,
 };
-use module_rules::fits_type;
 use oi_base::{Boxed, Items, NoMemory, Place, Text, Width};
 use std::alloc::Global;
 use std::test::Fail;
@@ -197,10 +193,6 @@ b:v:? b0 1 1;P p z0/x0,r|3
 b:v:? b0 1 1;P p x0/x0,r|-
 b:v:? b0 1 1;P p z0/g0,r|3
 b:v:? b0 1 1;P p g0/g0,r|-
-b:v:? b0 1 1;P p g0/A0,r|3
-b:v:? b0 1 1;P p A0/B0,r|-
-b:v:? b0 1 1;P p C0/D0,r|-
-b:v:? b0 1 1;P p B0/C0,r|3
 bww:v:? b0 1 1;P w 10/10,r|-
 bww:v:? b0 1 1;P w 10/20,r|3
 bww:v:? b0 1 1;P w 10/#0,r|3
@@ -212,14 +204,10 @@ bw:v:? b0 1 2;P w #0,j 3;P w #0,j 3;P w 21/32,r|-
 bw:v:? b0 1 2;P w #0,j 3;P w #0/#0,j 3;P w 21/31,r|7
 bw:v:! w1 2 w#3/w*1;r;j 2;P w #3/#3/#0,? b0 3 1|-
 bw:v:? b0 1 1;P w u1/u0/*1,! w1 1 w#1/w*1|3
-bw:v:j 1;P p A0/A1,P w #0/u1/u1,? b0 1 1|-
-bw:v:r;j 4;j 1;P w #3,? b0 3 3;P p x4/B1/B1/x4,? b0 4 4|-
 bw:v:j 1;P w x0/*1/*1,? b0 1 1|-
-bw:v:! w1 3 w#4/w*3;? b0 4 2;P p x4/z1,r;P p B0,r;P p B0/A1/A1,P w *1/x0,j 2|-
 bw:v:j 1;P w u0,P p g0,r|-
 bw:v:r;P w 12,j 3;? b0 4 1;r;j 4|-
 bw:v:r;P w 11,j 1;P w *3/*2/*3/#0,P w x2/*3,? b0 2 3;P w *3/12,P w *2/u3/*2,! w1 3 w#2/w*3|5
-bw:v:? b0 3 1;P w #0/*0/12,P p A2,? b0 4 4;P w u3/*0,P p x3/x3,j 1;P w u0,P w x0,? b0 2 2;r|3
 bw:v:r;? b0 1 1;P w u2,P w u2,j 2|-
 bw:v:j 1;P w u0,P w *1/*1/10,? b0 1 1|3
 bw:v:! w1 1 w#1/w*1;P w #0/#0/x1/u1,j 1|3
@@ -227,46 +215,26 @@ bw:v:j 2;j 3;P w u2/#3,j 2;? b0 2 3|4
 bw:v:? b0 2 3;? b0 2 2;P w x1/#3/x0,P w 11/10/#3,r;P p x3/x0/x3,! w1 3 w#2/w*3|-
 bw:v:j 1;P w x0/*3/12,r;? b0 3 3;! w1 3 w#1/w*3|3
 bw:v:j 1;r;j 2;P w #3,P w x3,j 3|-
-bw:v:j 1;P p x2/A0,r;P p C3/C3,P p B3,! w1 1 w#3/w*3;P p g3/C2/g3,P w u2/#3/#0,? b0 3 2|9
 bw:v:? b0 1 1;P w x1/x1/*0/*0,P p x0/g1,? b0 1 1|-
 bw:v:r;P w x2,P w x2/x2,r;j 1|-
 bw:v:j 1;P w u1/*0,? b0 1 1|-
-bw:v:! w1 1 w#3/w*3;j 1;? b0 1 2;P p A0/A0,! w1 2 w#2/w*1|-
 bw:v:j 3;P w #3/x4/#3,r;j 3;P w 14/*2/#0/14,? b0 4 1;P w x3,! w1 2 w#1/w*3|-
-bw:v:r;j 2;P p C1/C1/g2/D1,j 2|-
-bw:v:? b0 2 1;P p B0/A2,j 3;P w *3,j 1;P p A1/A1,? b0 2 2|5
-bw:v:r;P w #1,P p D1,j 1|-
 bw:v:j 1;P w #0/x1,P w u1/x0,j 1|-
 bw:v:r;P w *2/*2,r;P w 12,P p g2,! w1 3 w#2/w*1;j 3|-
 bw:v:? b0 1 1;j 2;P w x2/#1/*3,? b0 2 1;P w *3/*3,P w #3,! w1 2 w#3/w*1|-
 bw:v:r;P w #1/#1/*2/x0,j 1;P w #3/#3/*2/*2,P w u2/#3,? b0 1 2;j 2|3
-bw:v:? b0 3 2;! w1 2 w#1/w*3;? b0 3 1;P p A2/D1/A0/A2/A0,r|-
 bw:v:? b0 1 3;j 2;P w *1/*1,j 3;P p z2/z2,r|6
-bw:v:j 1;P p z2/C2/z0,P w 12/10/u0,j 2;j 1|3
-bw:v:j 1;P p B0/z2,P w #2/*0,j 2;P p x1,? b0 3 1;r|-
-bw:v:r;j 2;P p B1,r|-
 bw:v:? b0 1 1;P w x0/11,P w x1/*0/*0,j 1|-
 bw:v:r;r;P w #3,P w *3/#0,? b0 3 4;P w x2,? b0 2 1;P w u2/u2,r|5
-bw:v:! w1 2 w#4/w*3;r;P p C2/A0/C2,j 2;P w *4/x0/x0,P w u0/*4/u0/*4/#3,r;P p x0/A1,? b0 1 3|7
-bw:v:! w1 1 w#1/w*1;P p x0/D1,P w u1/u1/*0,! w1 1 w#1/w*1|-
 bw:v:j 1;P w x0,P w #0,r;P w u2/x2,j 2|6
-bw:v:j 2;P w 12,P p C2,? b0 2 2;P w 11/11/x2/*0/#0,P w 11/u0/u2,? b0 2 1;r|6
 bw:v:? b0 2 1;P w #0/10/12/#3,P w x2/*3/u0/*1,r;P w u0/u0,! w1 1 w#3/w*1;j 1|3
-bw:v:? b0 3 2;P w *1,P w 11,? b0 1 2;P w *0/12/u1/10,P w 10/u2/x1,? b0 3 2;P p g0/A2,P w u2,r|6
-bw:v:j 1;P p C1/g0,P w x1,? b0 1 1;r|4
 bw:v:j 2;j 1;P w 12/10/10,P w 10/10/#2,j 2|-
 bw:v:r;P w x2,r;j 1;r|-
-bw:v:? b0 3 1;P w x2/#0/#0/13/x1,j 1;P w x2,P p D2,! w1 1 w#2/w*3;P p z0/z0/z3/C2/z3/C1,? b0 1 3|8
 bw:v:j 1;? b0 1 2;P w *2/11,? b0 2 1|-
 bw:v:? b0 2 2;j 1;P w x2/#0/x2,? b0 1 2|-
-bw:v:j 1;P p B0/B0,P p D0,j 3;P w x3/x3,P w x3/x0,j 3;P w u1/12,P w u2/#1,j 2|7
-bw:v:j 1;P w x0/x0/x2/*1/#0,P w x0/x0/#2/11,? b0 2 1;P w x1/*2/x1,P p C2/z1/z1,? b0 1 2|3
 bw:v:j 3;? b0 2 4;P w x4/12/12/*1,j 2;P w #0,j 4;? b0 4 2|-
 bw:v:? b0 1 3;r;! w1 3 w#2/w*2;P w *0/x2/u3/u0,? b0 3 1|5
-bw:v:? b0 1 1;j 2;P p D1/z4,P w 11/11/14/14/#0,? b0 4 4;? b0 4 4;! w1 4 w#2/w*4|5
-bw:v:r;P w u2/x1,P p g1/g1/B2/A1,? b0 1 3;! w1 1 w#1/w*2;P w #3/#1/#1,P p D3/C1,? b0 2 3|4
 bw:v:r;P w x1/#0,P w *1/*1/x0,j 1|3
-bw:v:? b0 2 3;! w1 3 w#4/w*1;! w1 2 w#3/w*1;P w x0/x0/#1/#2/#1,P p x1/B0/D2/B0/z1,j 2;j 1|6
 bw:v:j 1;P w x1/x1,! w1 2 w#2/w*1;P w #2/x1/12,P w x2/x1,j 2|3
 bw:v:j 1;j 3;P w u2,P w 12,j 2;P w x1/*3,j 1|7
 bw:v:? b0 3 3;? b0 3 2;P w *1/x3,j 3;j 3|4";
@@ -573,7 +541,7 @@ fn function(alloc: Global, text: &str) -> Result<Func, NoMemory> {
     let params = params(alloc, letters)?;
     let mut next = Next {
         place: Place { line: 2, column: 1 },
-        result: params.len() as u32,
+        result: u32::try_from(params.len()).unwrap_or(0),
     };
     let mut blocks = Items::new(alloc);
     let mut number = 100u32;
@@ -640,7 +608,7 @@ fn the_first_place_where_types_disagree(rt: HostRuntime) -> Result<(), Fail> {
     Ok(())
 }
 
-/// The line of the first phi with wrong entries, in a function whose phis are simple.
+/// The line of the first phi with wrong entries, in a function without constant `getelementptr`s in phis.
 fn wrong_phi(alloc: Global, m: &Module, f: &Func) -> Result<u32, NoMemory> {
     let predecessors = Predecessors::of(alloc, f)?;
     if are_simple_blocks(f.blocks.as_slice()) {
@@ -705,7 +673,7 @@ fn are_simple_entries(entries: &[Pair]) -> bool
     true
 }
 
-/// Whether a value is no constant `getelementptr`, or one over elements of a register's type with one index.
+/// Whether a value is no constant `getelementptr`.
 fn is_simple(value: &Operand) -> bool
     ensures { IsTrue result → (ds : List defs.TypeDef) → IsMeasured ds value.now }
 {
@@ -719,13 +687,7 @@ fn is_simple_const(constant: &Const) -> bool
     ensures { IsTrue result → (ds : List defs.TypeDef) → IsMeasured ds (operands.Const constant.now) }
 {
     match constant {
-        Const::Gep(source, _, indices) => is_scalar(source) && is_one_that_fits(indices.as_slice()),
+        Const::Gep(_, _, _) => false,
         _ => true,
     }
-}
-
-fn is_one_that_fits(indices: &[TypedCount]) -> bool
-    ensures { IsTrue result → (i : counts.TypedCount) × (indices.now ≡ i ∷ []) × FitsType i.ty i.count }
-{
-    indices.len() == 1 && fits_type(&indices[0].ty, indices[0].count)
 }

@@ -15,6 +15,8 @@ mod StructNames
 mod UseLaws
 mod Reaching
 mod TypeNameLaws
+mod InParts
+mod AlignLaws
 mod TypeLevels
 mod ConstLevels
 mod TargetLaws

@@ -5,6 +5,7 @@ pub mod Target
 pub mod SymbolFaults
 pub mod TypeFaults
 pub mod Cycles
+pub mod AlignFaults
 pub mod Walks
 pub mod SameTypes
 pub mod InitFaults

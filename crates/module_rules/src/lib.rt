@@ -2,6 +2,7 @@
 //! integers fit their types (docs/RULES.md).
 #![tactic(auto)]
 
+pub mod alignments;
 mod components;
 mod cycles;
 mod first;
@@ -10,6 +11,7 @@ pub mod has_main;
 mod init_tests;
 pub mod initialisers;
 mod integers;
+mod measure;
 mod numbers;
 mod same_types;
 mod struct_names;

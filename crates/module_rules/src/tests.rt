@@ -1,7 +1,7 @@
-use crate::{has_main, type_names};
+use crate::{alignments, has_main, type_names};
 use ir_core::{
-    Block, Const, Func, GlobalVar, IrType, LocalId, Module, NamedTypes, Param, SymId, TypeDef,
-    TypeDefs, TypeName,
+    Block, Const, End, Func, GlobalVar, Instr, IrType, LocalId, Module, NamedTypes, Op, Operand,
+    Param, SymId, TypeDef, TypeDefs, TypeName, TypedOperand,
 };
 use oi_base::{Boxed, Items, NoMemory, Place, Text, Width};
 use std::alloc::{AllocError, Global};
@@ -98,35 +98,35 @@ fn a_good_main(rt: HostRuntime) -> Result<(), Fail> {
 
 // Each row has the definitions of type names and, behind `;`, the types of global variables, each on a line of its own: `v` is
 // `void`, `b`, `h` and `i` are integers of 8, 16 and 32 bits, `p` is `ptr`, a digit behind a type makes an array of so many, and a
-// capital letter is a name. Behind `|` stands the line at which the rule of type names is broken first.
+// capital letter is a name. Behind `|` stands the line of the first wrong type, but for one that holds itself.
 const TYPE_NAMES: &str = "B{} C{};B|-
+E{b1{ii}} A{A{bD}E} DE B{i1E2{EC}} C{i3};p|-
 C{i{pi}p} A{i2b} B{{ibC}};i1 {CbA} C30|-
+A{C} C{{p}AC} B{};B b|-
 A{{BC}} B{} C{ii};A|-
 C{DE3} D{} B{{D}{DbE}C} A{} E{i0{}b};{EAD} {AE} A2|-
 B{} A{b2B3};{B} p|-
 C{{Di}D2D3} B{{DDA}} A{EE1} D{} E{ip};|-
+A{} C{D2DC2} B{i0} D{{}};{C}|-
 AC C{} D{{ipi}} B{bCC};{B} C3 {}0|-
 AC D{} C{{pib}} BD;|-
 B{{ipp}C{Cp}} C{ii0{ip}} A{i{bCi}};{BC} C|-
 A{B0{}} B{{pp}b1};|-
 ;|-
-BC A{} E{} C{E2E3} D{b2};|-
-A{i3{ipp}};A {b{Abp}i} i|-
-B{C1p3C2} A{{CC}} D{p0} C{};|-
-A{C} C{{p}AC} B{};B b|1
 A{{pi}p{iB}};{{bB}i{pB}}|1
 A{{bA}iv2};|1
 AA;i {{}{ii}{}}|1
 C{{D}p} A{} BC;b A A|1
-C{p0{DE}} E{p{BCi}} DE B{A2p1A} AB;C D b|1
-B{{Bi}B1A3} A{{i}b0i};{} {B}|1
+BB A{iAb};|1
+C{D2b0} Di B{D0pC} A{{B}D{i}};C C D3|1
+AB D{i0i2} C{D0} BB;A|1
 B{i} AA;B {i{AAp}} A|2
-E{b1{ii}} A{A{bD}E} DE B{i1E2{EC}} C{i3};p|2
-A{} C{D2DC2} B{i0} D{{}};{C}|2
-A{} B{B3};{{B}{B}{BA}}|2
 A{} B{C2{i}} CD;{} C3|2
 E{b3} CD A{{BBD}} B{C};{}|2
-D{p} B{{BCD}{DAC}} C{{pp}ip} A{B{b}};B|2
+B{i} B{i{bi}b};i2 {BAp} {B3{ApA}{}}|2
+BE CA E{} E{i} AC D{{i}{ppb}{EEb}};C {{CA}B0} b|2
+B{{B}} C{{Dp}Dv} A{vDi} D{{ii}i};D b|2
+A{i} A{BA2C};{}|2
 E{b} B{i} B{} D{p0b1{Eb}} A{} C{};{pC{}} p B3|3
 Bi A{p2b};B2 {i}|3
 A{DC0p} C{D1} D{{bE}} B{} Ei;C {E} D|3
@@ -135,9 +135,9 @@ Bi A{{}{bi}};B|3
 A{} Ci B{iC};{{}} i|3
 DC C{b} AB;|3
 A{{}E0} B{} E{};{C1{Bb}} {A{DB}}|4
+D{E{pb}} C{{EpD}} A{i} A{{DDE}} E{{CiB}C1A0};{iC0i}|4
 B{} AB C{AiA2} A{i};C b B|4
 A{};A p {{ppB}}|4
-D{{ipp}E3E} A{EB2B} E{{iip}{}} B{{}B1} C{} B{i};B22|4
 B{i} E{{pii}} A{DC} BD CD D{};{b2Ep} {{ADC}{}i} {B1C0{BC}}|4
 D{} B{} C{{}{}} A{E} Ei;{} A0 {AE2C}|4
 A{} C{{ii}p2};{} {i3B} {}3|4
@@ -147,7 +147,66 @@ BA DC A{{}} C{i} CD;b i3 {iB1{}}|5
 A{} C{E} D{{}b{}} B{{}} E{{bpp}vi};|5
 D{} C{} E{} B{{p}};A {B0B{i}} {}|5
 C{} A{i} AC Di B{};D0 B2 D|6
+D{{ipp}E3E} A{EB2B} E{{iip}{}} B{{}B1} C{} B{i};B22|6
 DE B{{p}} E{C3} C{};i A11 {E0{E}}|6";
+
+// The same, where behind `:` stands an `align`, and behind a second `;` an instruction's letter (`a`, `l` and `s` for an alloca, a
+// load and a store) before its type. Behind `|` stands the line at which the rule of alignments is broken first.
+const ALIGNMENTS: &str = ";h;l{hpb}:16|-
+A{i1{}} B{b};{b1{bBA}A2}:4 A:4;a{p}|-
+A{} B{C{pCi}} C{ph};;|-
+B{i} A{};h p:8;|-
+;;|-
+B{} A{};;s{A}:4 s{h}:4|-
+A{B{bBh}} B{};b:2 {ih2}:8 {}:16;|-
+A{} C{} B{{iCh}};;lB ab1:4|-
+A{h};i:4 {b1}:2;l{}|-
+A{pp};{A};s{i}:16 a{pAA}:8 ap:16|-
+A{pi};;ah:2|-
+A{};{p2Ah}:4;|-
+;p:8 {h{}h}:8 p;|-
+C{{}{hi}} B{} A{};h {BB}:8;|-
+;{p0}:1 p3:2 i:4;sh:32|1
+;;ap0:32 ap|1
+;i:3;li2:8|1
+;{}:0 p:3 {p0}:8;lp lh2:6 sp:32|1
+;{h0}:6;ab:2|1
+;b:3;|1
+;{{hbh}h} i:1 h:16;ai0:2 a{ph}:8 l{}:8|2
+A{};p:3 A:3;sb:0 lh:3|2
+;{i}:8 i:1;|2
+;{pp} {b{p}i1}:0 b3:2;sb3:4 s{ph}:6|2
+;i0 h:32 {iib}:4;l{bi} ai3:16|2
+A{pi};A:32 {};l{iAb}:16 sp|2
+A{{}p};p:8 p:32 {hi0A}:6;sp:8 a{ihi}:2 s{}|3
+A{h} B{};;a{B}:3|3
+A{B3} B{{}};A:0 p:3;lp si2:6|3
+A{i0p} B{};A:2;l{b}|3
+B{b1p} A{};;lh2:6 sB0:2|3
+B{i} A{};{}:3 {{B}}:0 {{i}{i}};lB:3|3
+A{} B{ph2};{p3iB} i3:3 b:4294967295;sp:32 ap3:4294967295 sA:16|4
+C{i{pb}} B{Ch} A{C{CCB}};;sA:0|4
+C{} A{{}} B{i{Cpp}};{hbi}0:3 A;a{BA}:3|4
+B{h2} A{B};{}:2 b:6 b:4;lB3:8 lA|4
+A{CC} C{{bhh}p} B{ih};;aB0:0|4
+A{{ip}};A A:16 {}:0;l{}:32|4
+;{ib}:16 {};sh:8 ab:8 li:2|5
+A{ph};p12;l{A} li1:4 l{}:32|5
+A{B{}} B{} C{i{ibp}};C C3:3;sA:8 lC2 aA3:4|5
+C{i} B{h} A{};B:8 {i}0:1 C:8;s{Aph}|5
+A{} C{h3} B{p};{{bh}}:8 B:6;|5
+C{{bi}p1} A{B} B{{h}{i}};C:16 B:32;aC:4|5
+B{bi} A{};i:8 A:16;s{BbB}:4 lp:2|6
+C{b} A{{}b} B{{}{}};{ApC}1:16 B31:8;sA:3 ah a{}|6
+B{p{hh}} A{} C{i};{b{ACC}}:4 A {}:4294967295;s{BB} lB3:16|6
+A{h};{App1}:4 {{}h{b}};aA aA:4 sp:0|6
+B{} A{{B}};{B}2:8 {}:4;s{p} l{BB}:32 s{A}:16|6
+;b:1 p:16 p1:4;a{hbi}:16 sp:8 ab:4294967295|6
+A{} C{} B{{bC}};{{pCh}}:4;a{A}:16 sC:2 s{Bb}:6|7
+B{} C{b0} A{{pBB}b3};h:16 B:16;sC aA2:1|7
+B{{i}b} A{b} C{{}};{phh}:16 C1:8 C:16;ai2:2|7
+B{p3C} C{} A{C};{{}p}:8 A:8 {}0;s{B}:2 ai a{p}:4|7
+B{C0p} C{i} A{};b:4 {}:4;l{iAb} l{AA} lB:4294967295|8";
 
 pub fn named_types(alloc: Global, defs: Items<TypeDef>) -> Result<NamedTypes, NoMemory> {
     let mut names = Items::new(alloc);
@@ -213,9 +272,75 @@ pub fn type_of(alloc: Global, text: &str) -> Result<IrType, AllocError> {
     Ok(take(&mut levels))
 }
 
-/// A module with these definitions and global variables, on lines from 1.
+fn undef(ty: IrType) -> TypedOperand {
+    TypedOperand {
+        ty,
+        value: Operand::Const(Const::Undef),
+    }
+}
+
+/// What stands before a sign `:`, and the number behind it if there is one.
+fn aligned(word: &str) -> (&str, Option<u32>) {
+    match word.split_once(':') {
+        Some((before, number)) => (before, number.parse::<u32>().ok()),
+        None => (word, None),
+    }
+}
+
+fn op_of(alloc: Global, word: &str) -> Result<Op, AllocError> {
+    let (text, align) = aligned(word);
+    let ty = type_of(alloc, text.get(1..).unwrap_or(""))?;
+    match text.chars().next() {
+        Some('a') => Ok(Op::Alloca(ty, None, align)),
+        Some('l') => Ok(Op::Load(ty, undef(IrType::Ptr), align)),
+        _ => Ok(Op::Store(undef(ty), undef(IrType::Ptr), align)),
+    }
+}
+
+fn push_global(
+    m: &mut Module,
+    place: Place,
+    ty: IrType,
+    align: Option<u32>,
+) -> Result<(), AllocError> {
+    m.globals.push(GlobalVar {
+        place,
+        name: SymId(0),
+        internal: false,
+        constant: false,
+        ty,
+        init: Const::Undef,
+        align,
+    })
+}
+
+/// A function whose instructions stand on the lines behind a place.
+fn with_code(alloc: Global, before: Place, text: &str) -> Result<Func, AllocError> {
+    let mut place = before;
+    let mut code = Items::new(alloc);
+    for word in text.split_ascii_whitespace() {
+        place.line = place.line.saturating_add(1);
+        code.push(Instr {
+            place,
+            result: None,
+            op: op_of(alloc, word)?,
+        })?;
+    }
+    let mut blocks = Items::new(alloc);
+    blocks.push(Block {
+        place: before,
+        label: LocalId(0),
+        code,
+        end: End::Ret(None),
+        end_place: place,
+    })?;
+    Ok(function(alloc, 0, blocks))
+}
+
+/// A module with these definitions, global variables and instructions, on lines from 1.
 fn with_types(alloc: Global, text: &str) -> Result<Module, NoMemory> {
-    let (names, variables) = text.split_once(';').unwrap_or((text, ""));
+    let (names, rest) = text.split_once(';').unwrap_or((text, ""));
+    let (variables, code) = rest.split_once(';').unwrap_or((rest, ""));
     let mut place = Place { line: 0, column: 1 };
     let mut defs = Items::new(alloc);
     for word in names.split_ascii_whitespace() {
@@ -231,16 +356,10 @@ fn with_types(alloc: Global, text: &str) -> Result<Module, NoMemory> {
     m.types = named_types(alloc, defs)?;
     for word in variables.split_ascii_whitespace() {
         place.line = place.line.saturating_add(1);
-        m.globals.push(GlobalVar {
-            place,
-            name: SymId(0),
-            internal: false,
-            constant: false,
-            ty: type_of(alloc, word)?,
-            init: Const::Undef,
-            align: None,
-        })?;
+        let (text, align) = aligned(word);
+        push_global(&mut m, place, type_of(alloc, text)?, align)?;
     }
+    m.funcs.push(with_code(alloc, place, code)?)?;
     Ok(m)
 }
 
@@ -252,12 +371,24 @@ pub fn line_of(found: Option<Place>) -> u32 {
 }
 
 #[test]
-fn the_first_wrong_type_name(rt: HostRuntime) -> Result<(), Fail> {
+fn the_first_wrong_use_of_a_type(rt: HostRuntime) -> Result<(), Fail> {
     let alloc = rt.alloc();
     for row in TYPE_NAMES.lines() {
         let (text, wanted) = row.split_once('|').ok_or("no wanted line")?;
         let m = with_types(alloc, text)?;
-        let found = line_of(type_names::first_break(alloc, &m)?);
+        let found = line_of(type_names::first_wrong_use(alloc, &m)?);
+        assert_eq!(rt; found, wanted.parse::<u32>().unwrap_or(0), "{row}");
+    }
+    Ok(())
+}
+
+#[test]
+fn the_first_wrong_alignment(rt: HostRuntime) -> Result<(), Fail> {
+    let alloc = rt.alloc();
+    for row in ALIGNMENTS.lines() {
+        let (text, wanted) = row.split_once('|').ok_or("no wanted line")?;
+        let m = with_types(alloc, text)?;
+        let found = line_of(alignments::first_break(&m));
         assert_eq!(rt; found, wanted.parse::<u32>().unwrap_or(0), "{row}");
     }
     Ok(())

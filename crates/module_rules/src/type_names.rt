@@ -2,7 +2,7 @@ ghost use Rattle.std.specs.Prelude.{◌≡◌, [], IfOk};
 ghost use Rattle.ir_core.specs.Proper.{IsProper};
 ghost use Rattle.ir_core.specs.ValidTypes.{BreaksTypeNames};
 ghost use Rattle.module_rules.specs.First.{earliest, IsFound};
-ghost use Rattle.module_rules.specs.TypeFaults.{again_faults};
+ghost use Rattle.module_rules.specs.TypeFaults.{BreaksUses, again_faults};
 
 use crate::cycles::first_itself;
 use crate::first::earlier_if;
@@ -18,9 +18,16 @@ pub fn first_break(alloc: Global, m: &Module) -> Result<Option<Place>, NoMemory>
     requires proper { IsProper m.now }
     ensures found { IfOk result (IsFound (BreaksTypeNames m.now)) }
 {
-    let uses = uses_in(alloc, m)?;
-    let first = defined_again(alloc, uses.first(), uses.used(), m.types.defs.as_slice())?;
+    let first = first_wrong_use(alloc, m)?;
     first_itself(alloc, first, m)
+}
+
+/// The same but for types that hold themselves.
+pub(crate) fn first_wrong_use(alloc: Global, m: &Module) -> Result<Option<Place>, NoMemory>
+    ensures { IfOk result (IsFound (BreaksUses m.now)) }
+{
+    let uses = uses_in(alloc, m)?;
+    defined_again(alloc, uses.first(), uses.used(), m.types.defs.as_slice())
 }
 
 /// The earlier of a place and the first definition of a used name that stands behind another.
