@@ -7,6 +7,10 @@ pub mod Listing
 pub mod Sets
 pub mod Distinct
 pub mod IntegerLaws
+pub mod WalkLaws
+pub mod SameTypeLaws
+mod InitLevels
+mod InitLaws
 mod StructNames
 mod UseLaws
 mod Reaching

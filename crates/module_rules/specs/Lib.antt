@@ -7,3 +7,6 @@ pub mod TypeFaults
 pub mod Cycles
 pub mod AlignFaults
 pub mod SizeFaults
+pub mod Walks
+pub mod SameTypes
+pub mod InitFaults
