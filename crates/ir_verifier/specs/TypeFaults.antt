@@ -10,7 +10,6 @@ use Rattle.ir_core.specs.declared.ty.IrType.{IrType, Void, Int, Ptr}
 use Rattle.ir_core.specs.declared.module.Module.{Module}
 use Rattle.ir_core.specs.declared.constant.Const.{Const}
 use Rattle.ir_core.specs.declared.constant.Const as consts
-use Rattle.ir_core.specs.declared.constant.TypedCount.{TypedCount}
 use Rattle.ir_core.specs.declared.flat.CastOp.{CastOp}
 use Rattle.ir_core.specs.declared.flat.CastOp.TheVariants.{Zext, Sext, Trunc}
 use Rattle.ir_core.specs.declared.op.LocalId.{LocalId}

@@ -1,5 +1,5 @@
 -- The places at which the rule of initialisers is broken.
-use Rattle.std.proofs.Common.{◌≡◌, refl, sym, ap, ◌∙◌, subst, Bool, true, false, not, ◌&&◌, nat_eq, ℕ, List, [], ◌∷◌, map, length, None, All, arith}
+use Rattle.std.proofs.Common.{◌≡◌, refl, ap, ◌∙◌, subst, Bool, true, false, not, ◌&&◌, nat_eq, ℕ, List, [], ◌∷◌, map, length, None, arith}
 use Rattle.std.specs.Bool.{Decides}
 use Rattle.std.specs.List.{list_all}
 use Rattle.std.proofs.lemmas.Bool.Decides.{Decides-and, Decides-not, nat_tests}
@@ -13,7 +13,7 @@ use Rattle.ir_core.specs.declared.module.Module.{Module}
 use Rattle.ir_core.specs.declared.constant.Const.{Const, Row_of-TypedConst, end_of-TypedConst, more_of-TypedConst}
 use Rattle.ir_core.specs.declared.constant.Const as consts
 use Rattle.ir_core.specs.declared.constant.TypedCount.{TypedCount}
-use Rattle.ir_core.specs.ValidConsts.{FitsType, IsVariable, ConstWalk, IndicesFit, const_index, plain, HasType, AreItems, AreFields, BreaksInitialisers}
+use Rattle.ir_core.specs.ValidConsts.{FitsType, const_index, plain, HasType, AreItems, AreFields, BreaksInitialisers}
 use Rattle.module_rules.specs.First.{earliest, IsFound}
 use Rattle.module_rules.specs.Faults.{global_numbers, is_pointer, count_fits}
 use Rattle.module_rules.specs.Walks.{walks}

@@ -12,7 +12,6 @@ use Rattle.ir_core.specs.declared.module.Module.{Module}
 use Rattle.ir_core.specs.declared.constant.Const.{Const, Row_of-TypedConst, end_of-TypedConst, more_of-TypedConst}
 use Rattle.ir_core.specs.declared.constant.Const as consts
 use Rattle.ir_core.specs.declared.constant.TypedConst.{TypedConst}
-use Rattle.ir_core.specs.declared.constant.TypedCount.{TypedCount}
 use Rattle.ir_core.specs.ValidConsts.{const_index, plain}
 use Rattle.module_rules.specs.Faults.{place_if, global_numbers, fits_type, is_bit, is_pointer, count_fits}
 use Rattle.module_rules.specs.Walks.{walks}

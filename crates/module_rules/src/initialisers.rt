@@ -1,4 +1,4 @@
-ghost use Rattle.std.specs.Prelude.{◌≡◌, length, map, None, IfOk};
+ghost use Rattle.std.specs.Prelude.{◌≡◌, length, None, IfOk};
 ghost use Rattle.std.specs.List.{list_all};
 ghost use Rattle.ir_core.specs.declared.ty.IrType.{out-IrType};
 ghost use Rattle.ir_core.specs.ValidConsts.{BreaksInitialisers};

@@ -1,6 +1,5 @@
 use Rattle.std.proofs.Common.{ap, ◌∙◌, arith}
 use Rattle.std.proofs.lemmas.Bool.Decides.{nat_tests}
-use Rattle.ir_core.specs.declared.ty.IrType.{IrType}
 use Rattle.module_rules.specs.SameTypes.{same_type, same_types}
 use Rattle.module_rules.proofs.SameTypeLaws.{arrays_alike, structs_alike}
 use Rattle.module_rules.proofs.same_types.+types.Goals as goal
