@@ -22,4 +22,3 @@ mod scope;
 #[cfg(test)]
 mod tests;
 mod types;
-mod walk;

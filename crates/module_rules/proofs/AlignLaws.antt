@@ -65,10 +65,10 @@ pub alignments_found : (m : Module) → IsFound (BreaksAlignments m) (earliest N
 alignments_found m =
     found_in_parts (λ (p : Place). AtGlobal m p (λ g. IsGoodAlign defs g.ty g.align → ⊥)) (places bad_align at_global m.globals)
     (λ (f : Func) (p : Place). AtInstr f p (λ i. PromisesWell defs i.op → ⊥)) (func_align_faults defs) m.funcs
-    (at_sound bad_align at_global (λ (g : GlobalVar). IsGoodAlign defs g.ty g.align → ⊥) (bad_global defs) m.globals)
-    (at_complete bad_align at_global (λ (g : GlobalVar). IsGoodAlign defs g.ty g.align → ⊥) (bad_global defs) m.globals)
-    (λ f p h. at_sound bad_op at_instr (λ (i : Instr). PromisesWell defs i.op → ⊥) (bad_instr defs) (instrs f) p (subst (λ (ps : List Place). Has ps p) (sym (func_places defs f)) h))
-    (λ f p h. subst (λ (ps : List Place). Has ps p) (func_places defs f) (at_complete bad_op at_instr (λ (i : Instr). PromisesWell defs i.op → ⊥) (bad_instr defs) (instrs f) p h))
+    (at_sound bad_align at_global (λ (g : GlobalVar). IsGoodAlign defs g.ty g.align → ⊥) m.globals (λ g h. bad_global defs g))
+    (at_complete bad_align at_global (λ (g : GlobalVar). IsGoodAlign defs g.ty g.align → ⊥) m.globals (λ g h. bad_global defs g))
+    (λ f in_module p h. at_sound bad_op at_instr (λ (i : Instr). PromisesWell defs i.op → ⊥) (instrs f) (λ i g. bad_instr defs i) p (subst (λ (ps : List Place). Has ps p) (sym (func_places defs f)) h))
+    (λ f in_module p h. subst (λ (ps : List Place). Has ps p) (func_places defs f) (at_complete bad_op at_instr (λ (i : Instr). PromisesWell defs i.op → ⊥) (instrs f) (λ i g. bad_instr defs i) p h))
   where
     defs : List TypeDef
     defs = m.types.defs

@@ -60,7 +60,7 @@ fn push_function(alloc: Global, m: &mut Module, text: &str, number: u32) -> Resu
     m.funcs.push(func)
 }
 
-fn module(alloc: Global, text: &str) -> Result<Module, NoMemory> {
+pub fn module(alloc: Global, text: &str) -> Result<Module, NoMemory> {
     let mut m = Module {
         symbols: Items::new(alloc),
         types: NamedTypes {
@@ -208,7 +208,7 @@ B{{i}b} A{b} C{{}};{phh}:16 C1:8 C:16;ai2:2|7
 B{p3C} C{} A{C};{{}p}:8 A:8 {}0;s{B}:2 ai a{p}:4|7
 B{C0p} C{i} A{};b:4 {}:4;l{iAb} l{AA} lB:4294967295|8";
 
-fn named_types(alloc: Global, defs: Items<TypeDef>) -> Result<NamedTypes, NoMemory> {
+pub fn named_types(alloc: Global, defs: Items<TypeDef>) -> Result<NamedTypes, NoMemory> {
     let mut names = Items::new(alloc);
     for letter in b'A'..=b'Z' {
         names.push(Text::from_slice(alloc, &[letter])?)?;
@@ -221,6 +221,7 @@ fn named_types(alloc: Global, defs: Items<TypeDef>) -> Result<NamedTypes, NoMemo
 
 fn letter_type(letter: char) -> IrType {
     match letter {
+        'o' => IrType::Int(Width::W1),
         'b' => IrType::Int(Width::W8),
         'h' => IrType::Int(Width::W16),
         'i' => IrType::Int(Width::W32),
@@ -247,7 +248,7 @@ fn take(levels: &mut Vec<Items<IrType>>) -> IrType {
     }
 }
 
-fn type_of(alloc: Global, text: &str) -> Result<IrType, AllocError> {
+pub fn type_of(alloc: Global, text: &str) -> Result<IrType, AllocError> {
     let mut levels = Vec::new(alloc);
     levels.push(Items::new(alloc))?;
     for letter in text.chars() {
@@ -362,7 +363,7 @@ fn with_types(alloc: Global, text: &str) -> Result<Module, NoMemory> {
     Ok(m)
 }
 
-fn line_of(found: Option<Place>) -> u32 {
+pub fn line_of(found: Option<Place>) -> u32 {
     match found {
         Some(place) => place.line,
         None => 0,
