@@ -1,5 +1,5 @@
 -- The places at which the rule of alignments is broken.
-use Rattle.std.proofs.Common.{◌≡◌, refl, sym, subst, Bool, not, nat_le, ℕ, ◌≤◌, List, [], ◌∷◌, Option, Some, None, Contains, arith}
+use Rattle.std.proofs.Common.{◌≡◌, sym, subst, Bool, not, nat_le, ℕ, ◌≤◌, List, [], ◌∷◌, Option, Some, None, arith}
 use Rattle.std.specs.Bool.{Decides}
 use Rattle.std.proofs.lemmas.Bool.Decides.{Decides-and, Decides-not, nat_tests}
 use Rattle.oi_base.specs.declared.ids.Place.{Place}
@@ -20,7 +20,7 @@ use Rattle.ir_core.specs.ValidTypes.{IsGoodAlign, PromisesWell, BreaksAlignments
 use Rattle.ir_core.proofs.Lists.{Has, contains}
 use Rattle.module_rules.specs.First.{earliest, IsFound}
 use Rattle.module_rules.specs.Faults.{place_if}
-use Rattle.module_rules.specs.AlignFaults.{is_align, is_good_align, promises_well, global_align_fault, func_align_faults, align_faults}
+use Rattle.module_rules.specs.AlignFaults.{is_align, is_good_align, promises_well, func_align_faults, align_faults}
 use Rattle.module_rules.proofs.Decided.{always}
 use Rattle.module_rules.proofs.Faulty.{has, places}
 use Rattle.module_rules.proofs.InParts.{at_sound, at_complete, made_twice, found_in_parts}
