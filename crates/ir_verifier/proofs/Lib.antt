@@ -17,3 +17,5 @@ mod PredecessorLaws
 mod ValueLaws
 mod PhiLaws
 mod Measured
+mod VerdictLaws
+mod VerdictTold
