@@ -18,3 +18,5 @@ mod ValueLaws
 mod PhiLaws
 mod Measured
 mod SimpleRows
+mod VerdictLaws
+mod VerdictTold

@@ -2,11 +2,14 @@
 //! here, those of the module as a whole in `module_rules`.
 #![tactic(auto)]
 
+mod alignments;
 mod callees;
 mod calls;
 mod cases;
 mod constants;
 mod entry;
+mod fault;
+mod initialisers;
 mod kinds;
 mod meanings;
 mod names;
@@ -19,6 +22,13 @@ mod registers;
 #[cfg(test)]
 mod row_tests;
 mod scope;
+mod sizes;
 #[cfg(test)]
 mod tests;
+mod totals;
 mod types;
+mod verifying;
+mod walk;
+
+pub use fault::RuleFault;
+pub use verifying::verify;
