@@ -20,7 +20,7 @@ use Rattle.ir_core.proofs.Lists.{Has, contains, has_at}
 use Rattle.ir_core.proofs.Names.{some_value}
 use Rattle.ir_core.proofs.Fields.{named_layout}
 use Rattle.ir_core.proofs.Layouts.{at_array, at_struct}
-use Rattle.module_rules.proofs.WalkLaws.{none_at}
+use Rattle.ir_verifier.proofs.TypeLaws.{none_at}
 
 -- ---- one level of a type
 

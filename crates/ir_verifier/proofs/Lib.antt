@@ -18,5 +18,3 @@ mod ValueLaws
 mod PhiLaws
 mod Measured
 mod SimpleRows
-mod VerdictLaws
-mod VerdictTold

@@ -13,7 +13,7 @@ use Rattle.ir_verifier.specs.PhiFaults.{same_meaning, Values, with_value_at}
 use Rattle.module_rules.proofs.Decided.{false_is_not_true}
 use Rattle.module_rules.proofs.Distinct.{IsDistinct, position_is, no_position, at_in_first, at_in_next}
 use Rattle.module_rules.proofs.Sets.{number_decides}
-use Rattle.module_rules.proofs.SameTypeLaws.{two_true}
+use Rattle.ir_verifier.proofs.KindLaws.{two_true}
 use Rattle.module_rules.proofs.Sets.{local_of as same_local}
 use Rattle.module_rules.proofs.Sets.{symbol_of}
 

@@ -3,4 +3,3 @@ pub mod CallFaults
 pub mod TypeFaults
 pub mod PhiFaults
 pub mod Forms
-pub mod Verdict

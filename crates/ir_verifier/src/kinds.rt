@@ -1,16 +1,8 @@
 ghost use Rattle.std.specs.Prelude.{◌≡◌};
-ghost use Rattle.ir_verifier.specs.CallFaults.{same_kind, same_kinds};
-ghost use Rattle.ir_verifier.specs.TypeFaults.{is_scalar};
+ghost use Rattle.ir_verifier.specs.CallFaults.{same_width, same_kind, same_kinds};
 
 use ir_core::{IrType, Param, TypedOperand};
-use module_rules::same_width;
-
-/// Whether it is a type of registers.
-pub fn is_scalar(t: &IrType) -> bool
-    ensures { result ≡ is_scalar t.now }
-{
-    matches!(t, IrType::Int(_) | IrType::Ptr)
-}
+use oi_base::Width;
 
 /// Whether both types are `void`, both `ptr`, or both integers of one width.
 pub fn same_kind(t: &IrType, u: &IrType) -> bool
@@ -21,6 +13,12 @@ pub fn same_kind(t: &IrType, u: &IrType) -> bool
         (IrType::Int(v), IrType::Int(w)) => same_width(*v, *w),
         _ => false,
     }
+}
+
+fn same_width(v: Width, w: Width) -> bool
+    ensures { result ≡ same_width v w }
+{
+    v == w
 }
 
 /// Whether the arguments are as many as the parameters, and of their kinds.

@@ -2,14 +2,11 @@
 //! here, those of the module as a whole in `module_rules`.
 #![tactic(auto)]
 
-mod alignments;
 mod callees;
 mod calls;
 mod cases;
 mod constants;
 mod entry;
-mod fault;
-mod initialisers;
 mod kinds;
 mod meanings;
 mod names;
@@ -22,13 +19,7 @@ mod registers;
 #[cfg(test)]
 mod row_tests;
 mod scope;
-mod sizes;
 #[cfg(test)]
 mod tests;
-mod totals;
 mod types;
-mod verifying;
 mod walk;
-
-pub use fault::RuleFault;
-pub use verifying::verify;

@@ -1,7 +1,7 @@
-use crate::{alignments, has_main, sizes, type_names};
+use crate::{alignments, has_main, type_names};
 use ir_core::{
     Block, Const, End, Func, GlobalVar, Instr, IrType, LocalId, Module, NamedTypes, Op, Operand,
-    Param, Short, SymId, TypeDef, TypeDefs, TypeName, TypedCount, TypedOperand,
+    Param, SymId, TypeDef, TypeDefs, TypeName, TypedOperand,
 };
 use oi_base::{Boxed, Items, NoMemory, Place, Text, Width};
 use std::alloc::{AllocError, Global};
@@ -60,7 +60,7 @@ fn push_function(alloc: Global, m: &mut Module, text: &str, number: u32) -> Resu
     m.funcs.push(func)
 }
 
-pub fn module(alloc: Global, text: &str) -> Result<Module, NoMemory> {
+fn module(alloc: Global, text: &str) -> Result<Module, NoMemory> {
     let mut m = Module {
         symbols: Items::new(alloc),
         types: NamedTypes {
@@ -208,27 +208,7 @@ B{{i}b} A{b} C{{}};{phh}:16 C1:8 C:16;ai2:2|7
 B{p3C} C{} A{C};{{}p}:8 A:8 {}0;s{B}:2 ai a{p}:4|7
 B{C0p} C{i} A{};b:4 {}:4;l{iAb} l{AA} lB:4294967295|8";
 
-// The same without `align`, where behind a global variable's `=` stands the source type of a constant `getelementptr`, its
-// initialiser, and behind `*` an alloca's count. `g` is a `getelementptr` and `c` a store of a constant one. Behind `|` stands
-// the line at which the rule of sizes is broken first.
-const SIZES: &str = ";;|-
-A{b88888888} B{AA0};b88888888 p=A;aA ai*4194304 a{}*99999999 gA cA|-
-A{b888888888} B{Ap};p;lA sB lb888888888|-
-;b88888888 {b88888888b};|2
-A{b888888888};{};aA0|3
-A{BC0} B{b} C{p{Dh}} D{b888888880};{} A;|-
-A{CCCC} B{A} C{b8888888bb8888888};b;aC gB aA|6
-A{b88888888} B{AA0} C{Bb};b;aA aB sC aC|8
-;p b i;ab*16777216 ai*4194305 ab*16777217|5
-A{ii};;a{} aA*2097152 aA*2097153|4
-;;ab888888889*0|1
-;p=b88888888 p={b88888888p} b99999999;|2
-;;lb99999999 gb88888888 gb88888887i gb99999999|4
-A{B} B{i99999999};h;cp c{iA0} aA|5
-A{i9999999} B{A9};b;aA*0 aA*1 aB|4
-A{} B{C} C{i4444} D{B88888} E{D2};E0 D;aE0 aE|6";
-
-pub fn named_types(alloc: Global, defs: Items<TypeDef>) -> Result<NamedTypes, NoMemory> {
+fn named_types(alloc: Global, defs: Items<TypeDef>) -> Result<NamedTypes, NoMemory> {
     let mut names = Items::new(alloc);
     for letter in b'A'..=b'Z' {
         names.push(Text::from_slice(alloc, &[letter])?)?;
@@ -241,7 +221,6 @@ pub fn named_types(alloc: Global, defs: Items<TypeDef>) -> Result<NamedTypes, No
 
 fn letter_type(letter: char) -> IrType {
     match letter {
-        'o' => IrType::Int(Width::W1),
         'b' => IrType::Int(Width::W8),
         'h' => IrType::Int(Width::W16),
         'i' => IrType::Int(Width::W32),
@@ -268,7 +247,7 @@ fn take(levels: &mut Vec<Items<IrType>>) -> IrType {
     }
 }
 
-pub fn type_of(alloc: Global, text: &str) -> Result<IrType, AllocError> {
+fn type_of(alloc: Global, text: &str) -> Result<IrType, AllocError> {
     let mut levels = Vec::new(alloc);
     levels.push(Items::new(alloc))?;
     for letter in text.chars() {
@@ -307,51 +286,13 @@ fn aligned(word: &str) -> (&str, Option<u32>) {
     }
 }
 
-/// What stands before a sign `*`, and the count behind it if there is one.
-fn counted(word: &str) -> (&str, Option<TypedCount>) {
-    match word.split_once('*') {
-        Some((before, number)) => (
-            before,
-            Some(TypedCount {
-                ty: IrType::Int(Width::W32),
-                count: i128::from(number.parse::<u32>().unwrap_or(0)),
-            }),
-        ),
-        None => (word, None),
-    }
-}
-
-/// A constant `getelementptr` with a source type and without indices.
-fn address_in(alloc: Global, source: IrType) -> Const {
-    Const::Gep(source, SymId(0), Items::new(alloc))
-}
-
-/// What stands before a sign `=`, and an address in the type behind it, or `undef` if there is none.
-fn initialised(alloc: Global, word: &str) -> Result<(&str, Const), AllocError> {
-    match word.split_once('=') {
-        Some((before, source)) => Ok((before, address_in(alloc, type_of(alloc, source)?))),
-        None => Ok((word, Const::Undef)),
-    }
-}
-
 fn op_of(alloc: Global, word: &str) -> Result<Op, AllocError> {
     let (text, align) = aligned(word);
-    let (text, count) = counted(text);
     let ty = type_of(alloc, text.get(1..).unwrap_or(""))?;
-    let to = undef(IrType::Ptr);
     match text.chars().next() {
-        Some('a') => Ok(Op::Alloca(ty, count, align)),
-        Some('l') => Ok(Op::Load(ty, to, align)),
-        Some('g') => Ok(Op::Gep(ty, to, Short::new(alloc))),
-        Some('c') => Ok(Op::Store(
-            TypedOperand {
-                ty: IrType::Ptr,
-                value: Operand::Const(address_in(alloc, ty)),
-            },
-            to,
-            align,
-        )),
-        _ => Ok(Op::Store(undef(ty), to, align)),
+        Some('a') => Ok(Op::Alloca(ty, None, align)),
+        Some('l') => Ok(Op::Load(ty, undef(IrType::Ptr), align)),
+        _ => Ok(Op::Store(undef(ty), undef(IrType::Ptr), align)),
     }
 }
 
@@ -359,7 +300,6 @@ fn push_global(
     m: &mut Module,
     place: Place,
     ty: IrType,
-    init: Const,
     align: Option<u32>,
 ) -> Result<(), AllocError> {
     m.globals.push(GlobalVar {
@@ -368,7 +308,7 @@ fn push_global(
         internal: false,
         constant: false,
         ty,
-        init,
+        init: Const::Undef,
         align,
     })
 }
@@ -416,14 +356,13 @@ fn with_types(alloc: Global, text: &str) -> Result<Module, NoMemory> {
     for word in variables.split_ascii_whitespace() {
         place.line = place.line.saturating_add(1);
         let (text, align) = aligned(word);
-        let (text, init) = initialised(alloc, text)?;
-        push_global(&mut m, place, type_of(alloc, text)?, init, align)?;
+        push_global(&mut m, place, type_of(alloc, text)?, align)?;
     }
     m.funcs.push(with_code(alloc, place, code)?)?;
     Ok(m)
 }
 
-pub fn line_of(found: Option<Place>) -> u32 {
+fn line_of(found: Option<Place>) -> u32 {
     match found {
         Some(place) => place.line,
         None => 0,
@@ -449,18 +388,6 @@ fn the_first_wrong_alignment(rt: HostRuntime) -> Result<(), Fail> {
         let (text, wanted) = row.split_once('|').ok_or("no wanted line")?;
         let m = with_types(alloc, text)?;
         let found = line_of(alignments::first_break(&m));
-        assert_eq!(rt; found, wanted.parse::<u32>().unwrap_or(0), "{row}");
-    }
-    Ok(())
-}
-
-#[test]
-fn the_first_type_that_is_too_large(rt: HostRuntime) -> Result<(), Fail> {
-    let alloc = rt.alloc();
-    for row in SIZES.lines() {
-        let (text, wanted) = row.split_once('|').ok_or("no wanted line")?;
-        let m = with_types(alloc, text)?;
-        let found = line_of(sizes::first_large(alloc, &m)?);
         assert_eq!(rt; found, wanted.parse::<u32>().unwrap_or(0), "{row}");
     }
     Ok(())

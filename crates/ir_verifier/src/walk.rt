@@ -1,22 +1,23 @@
 ghost use Rattle.std.specs.Prelude.{◌≡◌, map};
 ghost use Rattle.std.specs.Option.{option_copied};
 ghost use Rattle.ir_core.specs.ValidConsts.{number_of, index_of, const_index};
-ghost use Rattle.module_rules.specs.Walks.{is_integer, is_word, field_at, next, walks_into, walks};
+ghost use Rattle.ir_verifier.specs.TypeFaults.{is_integer, is_scalar, field_at, next, walks_into, walks};
 
+use crate::kinds::same_kind;
 use ir_core::{Const, IrType, Operand, TypeDefs, TypedCount, TypedOperand};
 use oi_base::Width;
 
-/// Whether it is an integer type.
 pub fn is_integer(t: &IrType) -> bool
     ensures { result ≡ is_integer t.now }
 {
     matches!(t, IrType::Int(_))
 }
 
-fn is_word(t: &IrType) -> bool
-    ensures { result ≡ is_word t.now }
+/// Whether it is a type of registers.
+pub fn is_scalar(t: &IrType) -> bool
+    ensures { result ≡ is_scalar t.now }
 {
-    matches!(t, IrType::Int(Width::W32))
+    matches!(t, IrType::Int(_) | IrType::Ptr)
 }
 
 /// Whether the indices of a `getelementptr` are integers, and those behind the first walk into the source type: into an
@@ -87,7 +88,9 @@ fn next<'a>(
     }
     match defs.resolved(t) {
         IrType::Array(_, item) => Some(item.get()),
-        IrType::Struct(fields) if is_word(ty) => field_at(fields.as_slice(), number),
+        IrType::Struct(fields) if same_kind(ty, &IrType::Int(Width::W32)) => {
+            field_at(fields.as_slice(), number)
+        }
         _ => None,
     }
 }
