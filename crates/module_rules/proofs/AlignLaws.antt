@@ -1,5 +1,5 @@
 -- The places at which the rule of alignments is broken.
-use Rattle.std.proofs.Common.{◌≡◌, refl, sym, subst, Bool, not, nat_le, ℕ, ◌≤◌, List, [], ◌∷◌, Option, Some, None, Contains, arith}
+use Rattle.std.proofs.Common.{◌≡◌, sym, subst, Bool, not, nat_le, ℕ, ◌≤◌, List, [], ◌∷◌, Option, Some, None, arith}
 use Rattle.std.specs.Bool.{Decides}
 use Rattle.std.proofs.lemmas.Bool.Decides.{Decides-and, Decides-not, nat_tests}
 use Rattle.oi_base.specs.declared.ids.Place.{Place}
@@ -20,7 +20,7 @@ use Rattle.ir_core.specs.ValidTypes.{IsGoodAlign, PromisesWell, BreaksAlignments
 use Rattle.ir_core.proofs.Lists.{Has, contains}
 use Rattle.module_rules.specs.First.{earliest, IsFound}
 use Rattle.module_rules.specs.Faults.{place_if}
-use Rattle.module_rules.specs.AlignFaults.{is_align, is_good_align, promises_well, global_align_fault, func_align_faults, align_faults}
+use Rattle.module_rules.specs.AlignFaults.{is_align, is_good_align, promises_well, func_align_faults, align_faults}
 use Rattle.module_rules.proofs.Decided.{always}
 use Rattle.module_rules.proofs.Faulty.{has, places}
 use Rattle.module_rules.proofs.InParts.{at_sound, at_complete, made_twice, found_in_parts}
@@ -65,10 +65,10 @@ pub alignments_found : (m : Module) → IsFound (BreaksAlignments m) (earliest N
 alignments_found m =
     found_in_parts (λ (p : Place). AtGlobal m p (λ g. IsGoodAlign defs g.ty g.align → ⊥)) (places bad_align at_global m.globals)
     (λ (f : Func) (p : Place). AtInstr f p (λ i. PromisesWell defs i.op → ⊥)) (func_align_faults defs) m.funcs
-    (at_sound bad_align at_global (λ (g : GlobalVar). IsGoodAlign defs g.ty g.align → ⊥) (bad_global defs) m.globals)
-    (at_complete bad_align at_global (λ (g : GlobalVar). IsGoodAlign defs g.ty g.align → ⊥) (bad_global defs) m.globals)
-    (λ f p h. at_sound bad_op at_instr (λ (i : Instr). PromisesWell defs i.op → ⊥) (bad_instr defs) (instrs f) p (subst (λ (ps : List Place). Has ps p) (sym (func_places defs f)) h))
-    (λ f p h. subst (λ (ps : List Place). Has ps p) (func_places defs f) (at_complete bad_op at_instr (λ (i : Instr). PromisesWell defs i.op → ⊥) (bad_instr defs) (instrs f) p h))
+    (at_sound bad_align at_global (λ (g : GlobalVar). IsGoodAlign defs g.ty g.align → ⊥) m.globals (λ g h. bad_global defs g))
+    (at_complete bad_align at_global (λ (g : GlobalVar). IsGoodAlign defs g.ty g.align → ⊥) m.globals (λ g h. bad_global defs g))
+    (λ f in_module p h. at_sound bad_op at_instr (λ (i : Instr). PromisesWell defs i.op → ⊥) (instrs f) (λ i g. bad_instr defs i) p (subst (λ (ps : List Place). Has ps p) (sym (func_places defs f)) h))
+    (λ f in_module p h. subst (λ (ps : List Place). Has ps p) (func_places defs f) (at_complete bad_op at_instr (λ (i : Instr). PromisesWell defs i.op → ⊥) (instrs f) (λ i g. bad_instr defs i) p h))
   where
     defs : List TypeDef
     defs = m.types.defs

@@ -1,5 +1,5 @@
 -- What stands in a constant, one level at a time.
-use Rattle.std.proofs.Common.{◌≡◌, ap, refl, ◌∙◌, List, [], ◌++◌}
+use Rattle.std.proofs.Common.{◌≡◌, ap, refl, ◌∙◌, List, ◌++◌}
 use Rattle.std.specs.List.{flat_map}
 use Rattle.ir_core.specs.declared.ty.IrType.{IrType}
 use Rattle.ir_core.specs.declared.constant.TypedConst.{TypedConst}

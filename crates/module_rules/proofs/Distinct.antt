@@ -98,3 +98,18 @@ pub at_in_first : {A : Type 0} (xs ys : List A) (k : ℕ) (x : A) → slice_get 
 at_in_first [] ys k x e = absurd (let clash : None ≡ Some x = e in cc)
 at_in_first (y ∷ xs) ys zero x e = e
 at_in_first (y ∷ xs) ys (suc k) x e = at_in_first xs ys k x e
+
+-- where an element stands in a list with one more at its end
+pub at_last : {A : Type 0} (xs : List A) (a x : A) (i : ℕ) → slice_get (xs ++ a ∷ []) i ≡ Some x → (slice_get xs i ≡ Some x) ⊎ ((i ≡ length xs) × (x ≡ a))
+at_last [] a x zero e = inr (refl, let same : a ≡ x = cc in sym same)
+at_last [] a x (suc i) e = absurd (let clash : None ≡ Some x = e in cc)
+at_last (y ∷ ys) a x zero e = inl e
+at_last {A} (y ∷ ys) a x (suc i) e = next (at_last ys a x i e)
+  where
+    next : (slice_get ys i ≡ Some x) ⊎ ((i ≡ length ys) × (x ≡ a)) → (slice_get (y ∷ ys) (suc i) ≡ Some x) ⊎ ((suc i ≡ length (y ∷ ys)) × (x ≡ a))
+    next (inl h) = inl h
+    next (inr h) = inr (ap suc h.0, h.1)
+
+pub last_at : {A : Type 0} (xs : List A) (a : A) → slice_get (xs ++ a ∷ []) (length xs) ≡ Some a
+last_at [] a = refl
+last_at (y ∷ ys) a = last_at ys a

@@ -2,6 +2,7 @@
 use Rattle.std.proofs.Common.{◌≡◌, ◌⊎◌, inl, inr, refl, sym, ap, ◌∙◌, subst, Bool, true, false, cond, if◌then◌else◌, IsTrue, List, [], ◌∷◌, Option, Some, None, arith}
 use Rattle.std.proofs.lemmas.Bool.Decides.{nat_tests}
 use Rattle.oi_base.specs.declared.ids.Place.{Place}
+use Rattle.ir_core.specs.Parts.{listed}
 use Rattle.ir_core.specs.Stands.{is_up_to}
 use Rattle.ir_core.specs.FirstBroken.{IsFirstPlace}
 use Rattle.ir_core.proofs.Lists.{Has}
@@ -133,3 +134,16 @@ found_also P o (r ∷ rs) f =
     back p (inl h) = inl (inl h)
     back p (inr (inl e)) = inl (inr e)
     back p (inr (inr h)) = inr h
+
+-- one rule or another
+pub found_either : (P Q : Place → Type 0) (o r : Option Place) → IsFound P o → IsFound Q r → IsFound (λ (p : Place). P p ⊎ Q p) (earliest o (listed r))
+found_either P Q o None f g = found_same P (λ (p : Place). P p ⊎ Q p) o f (λ p h. inl h) left
+  where
+    left : (p : Place) → P p ⊎ Q p → P p
+    left p (inl h) = h
+    left p (inr h) = absurd (g p h)
+found_either P Q o (Some r) f g = found_more P (λ (p : Place). P p ⊎ Q p) o r f (λ p h. inl h) (inr g.broken) only
+  where
+    only : (p : Place) → P p ⊎ Q p → P p ⊎ (is_up_to r p ≡ true)
+    only p (inl h) = inl h
+    only p (inr h) = inr (g.first p h)

@@ -7,13 +7,24 @@ pub mod Listing
 pub mod Sets
 pub mod Distinct
 pub mod IntegerLaws
+pub mod WalkLaws
+pub mod SameTypeLaws
+mod InitLevels
+mod InitLaws
 mod StructNames
 mod UseLaws
 mod Reaching
 mod TypeNameLaws
 mod InParts
 mod AlignLaws
+mod SizeLevels
+mod LaidUses
+mod SizeLaws
+mod SizeUses
+mod SizePlaces
 mod TypeLevels
 mod ConstLevels
 mod TargetLaws
 mod SymbolLaws
+mod NameSums
+mod TotalLaws

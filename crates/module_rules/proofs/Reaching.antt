@@ -20,7 +20,7 @@ use Rattle.ir_core.proofs.Lists.{Has, has_left, has_right, has_part, has_at, at_
 use Rattle.ir_core.proofs.Names.{defined}
 use Rattle.module_rules.specs.Faults.{with_number, with_numbers}
 use Rattle.module_rules.specs.Cycles.{rank_of, NeverRise, number_if, of_rank, held_names, held, HoldsWithin, IsClosedUpTo, AreReached}
-use Rattle.module_rules.proofs.Faulty.{has, has_in}
+use Rattle.module_rules.proofs.Faulty.{has}
 use Rattle.module_rules.proofs.Decided.{false_is_not_true, passes}
 use Rattle.module_rules.proofs.Listing.{one_at}
 use Rattle.module_rules.proofs.Sets.{number_decides, in_numbers, numbers_in, has_made}

@@ -1,18 +1,17 @@
 -- By the emptied definitions a name has a layout exactly where it stands for a struct.
-use Rattle.std.proofs.Common.{◌≡◌, refl, sym, ap, ◌∙◌, subst, Bool, true, false, cond, ℕ, ◌+◌, zero, suc, List, [], ◌∷◌, map, length, Option, Some, None, slice_get, is_some}
+use Rattle.std.proofs.Common.{◌≡◌, refl, sym, ap, ◌∙◌, subst, cond, ℕ, ◌+◌, zero, suc, List, [], ◌∷◌, map, length, Option, Some, None, slice_get, is_some}
 use Rattle.std.specs.Bool.{Decides}
 use Rattle.std.specs.Option.{option_map, option_map_or, option_and_then}
 use Rattle.std.specs.List.{position_from}
 use Rattle.std.proofs.lemmas.List.{length-map}
 use Rattle.std.proofs.lemmas.Option.{slice_get-map}
-use Rattle.ir_core.specs.declared.layout.Layout.{Layout}
 use Rattle.ir_core.specs.declared.ty.TypeName.{TypeName}
 use Rattle.ir_core.specs.declared.ty.TypeDef.{TypeDef}
 use Rattle.ir_core.specs.declared.ty.IrType.{IrType, Void, Int, Ptr, Array', Struct', Named, Row_of-IrType, end_of-IrType, more_of-IrType, items-the_row-IrType, out-IrType}
 use Rattle.ir_core.specs.declared.ty.IrType.TheOpen.{IrType-F}
 use Rattle.ir_core.specs.declared.ty.IrType.TheVariants as types
 use Rattle.ir_core.specs.declared.ty.IrType.TheVariants.{outs-Void, outs-Int, outs-Ptr, outs-Array, outs-Struct', outs-Named}
-use Rattle.ir_core.specs.Sizes.{rounded, placed, empty, layout_by, is_named, definition, name_layout, layout, name_of, resolved}
+use Rattle.ir_core.specs.Sizes.{layout_by, is_named, definition, name_layout, layout, name_of, resolved}
 use Rattle.ir_core.specs.ValidTypes.{StandsForStruct}
 use Rattle.ir_core.proofs.Layouts.{at_struct}
 use Rattle.module_rules.specs.TypeFaults.{emptied, emptied_def, emptied_defs, is_laid_name}
@@ -39,14 +38,14 @@ module _ (by : IrType → IrType) where
 
 -- ---- structs
 
-abbrev IsStruct : IrType → Type 0
+abbrev pub IsStruct : IrType → Type 0
 IsStruct t = (fields : List IrType) × (out-IrType t ≡ IrType-F.Struct fields)
 
 pub resolved_itself : (n : ℕ) (defs : List TypeDef) (t : IrType) → name_of t ≡ None → resolved n defs t ≡ t
 resolved_itself zero defs t e = refl
 resolved_itself (suc n) defs t e = ap (λ (o : Option TypeName). option_map_or (λ (d : TypeDef). resolved n defs d.ty) (option_and_then (definition defs) o) t) e
 
-name_no_struct : (x : TypeName) → IsStruct (Named x) → ⊥
+pub name_no_struct : (x : TypeName) → IsStruct (Named x) → ⊥
 name_no_struct x s = let clash : IrType-F.Named x ≡ IrType-F.Struct s.0 = sym (outs-Named x) ∙ s.1 in cc
 
 no_array : (k : ℕ) (item : IrType) → IsStruct (types.Array k item) → ⊥

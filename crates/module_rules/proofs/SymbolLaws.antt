@@ -1,5 +1,5 @@
 -- The places at which the rule of symbols is broken.
-use Rattle.std.proofs.Common.{◌≡◌, ◌≢◌, ◌⊎◌, inl, inr, refl, sym, ap, ◌∙◌, subst, Bool, true, false, if◌then◌else◌, nat_eq, ℕ, zero, suc, List, [], ◌∷◌, ◌++◌, length, map, Option, Some, None, IsTrue, slice_get, arith}
+use Rattle.std.proofs.Common.{◌≡◌, ◌≢◌, ◌⊎◌, inl, inr, refl, sym, ap, ◌∙◌, subst, Bool, true, false, if◌then◌else◌, nat_eq, ℕ, List, [], ◌∷◌, ◌++◌, length, map, Option, Some, None, IsTrue, slice_get, arith}
 use Rattle.std.specs.Map.{lookup}
 use Rattle.std.proofs.lemmas.Bool.Decides.{nat_tests}
 use Rattle.std.proofs.lemmas.List.{append_assoc, append-nil}
@@ -17,7 +17,7 @@ use Rattle.module_rules.proofs.Decided.{false_is_not_true}
 use Rattle.module_rules.proofs.Earliest.{up_to_itself, up_to_trans, up_to_total, found_more, found_same}
 use Rattle.module_rules.proofs.Faulty.{has_in}
 use Rattle.module_rules.proofs.Sets.{symbol_of}
-use Rattle.module_rules.proofs.Distinct.{at_in_first}
+use Rattle.module_rules.proofs.Distinct.{at_in_first, at_last, last_at}
 
 -- ---- a table with one more entry
 
@@ -56,20 +56,6 @@ record Tells (s : Symbols) (seen : List Introduced) : Type 0 where
   first : IsFound (Twice seen) s.first
 
 -- ---- one more symbol
-
-at_last : (seen : List Introduced) (a x : Introduced) (i : ℕ) → slice_get (seen ++ a ∷ []) i ≡ Some x → (slice_get seen i ≡ Some x) ⊎ ((i ≡ length seen) × (x ≡ a))
-at_last [] a x zero e = inr (refl, let same : a ≡ x = cc in sym same)
-at_last [] a x (suc i) e = absurd (let clash : None ≡ Some x = e in cc)
-at_last (y ∷ ys) a x zero e = inl e
-at_last (y ∷ ys) a x (suc i) e = next (at_last ys a x i e)
-  where
-    next : (slice_get ys i ≡ Some x) ⊎ ((i ≡ length ys) × (x ≡ a)) → (slice_get (y ∷ ys) (suc i) ≡ Some x) ⊎ ((suc i ≡ length (y ∷ ys)) × (x ≡ a))
-    next (inl h) = inl h
-    next (inr h) = inr (ap suc h.0, h.1)
-
-last_at : (seen : List Introduced) (a : Introduced) → slice_get (seen ++ a ∷ []) (length seen) ≡ Some a
-last_at [] a = refl
-last_at (y ∷ ys) a = last_at ys a
 
 module _ (seen : List Introduced) (a : Introduced) where
   abbrev more : List Introduced

@@ -1,5 +1,5 @@
 -- What stands in a type, one level at a time.
-use Rattle.std.proofs.Common.{◌≡◌, refl, ap, ◌∙◌, Bool, true, false, ◌||◌, ℕ, List, [], ◌∷◌, ◌++◌}
+use Rattle.std.proofs.Common.{◌≡◌, refl, ap, ◌∙◌, Bool, true, false, ◌||◌, ℕ, List, ◌++◌}
 use Rattle.std.specs.List.{flat_map, list_any}
 use Rattle.std.proofs.lemmas.List.{append-nil}
 use Rattle.ir_core.specs.declared.ty.TypeName.{TypeName}
@@ -24,7 +24,7 @@ pub array_void : (n : ℕ) (item : IrType) → has_void (types.Array n item) ≡
 unfolding Rattle.ir_core.specs.declared.ty.IrType.TheBlock.hidden-the_row-IrType-0 denote.Hole.Carrier.hidden
 array_void n item = or_false (has_void item)
 
-row_names : (n : _) (row : Row_of-IrType n) → names_in_types row ≡ flat_map names_in_type (items-the_row-IrType n row)
+pub row_names : (n : _) (row : Row_of-IrType n) → names_in_types row ≡ flat_map names_in_type (items-the_row-IrType n row)
 row_names _ end_of-IrType = refl
 row_names _ (more_of-IrType t ts) = ap (λ (xs : List TypeName). names_in_type t ++ xs) (row_names _ ts)
 

@@ -1,5 +1,5 @@
 -- The places at which the rule of type names is broken, where names that hold themselves are counted in one by one.
-use Rattle.std.proofs.Common.{◌≡◌, ◌⊎◌, inl, inr, refl, sym, ap, subst, ⊎_elim, ℕ, ◌+◌, ◌<◌, ◌≤◌, true, List, length, Option, Some, slice_get, Contains, arith}
+use Rattle.std.proofs.Common.{◌≡◌, ◌⊎◌, inl, inr, refl, sym, subst, ⊎_elim, ℕ, ◌+◌, ◌≤◌, true, List, length, Option, Some, slice_get, arith}
 use Rattle.std.proofs.lemmas.Bool.{cases_lt}
 use Rattle.std.proofs.lemmas.Option.{slice_get_within}
 use Rattle.oi_base.specs.declared.ids.Place.{Place}
@@ -8,7 +8,7 @@ use Rattle.ir_core.specs.declared.module.Module.{Module}
 use Rattle.ir_core.specs.Acyclic.{HoldsItself}
 use Rattle.ir_core.specs.Stands.{is_up_to}
 use Rattle.ir_core.specs.ValidTypes.{BreaksTypeNames, IsDefinedByItself}
-use Rattle.module_rules.specs.First.{earlier, IsFound}
+use Rattle.module_rules.specs.First.{IsFound}
 use Rattle.module_rules.specs.TypeFaults.{BreaksUses}
 use Rattle.module_rules.specs.Cycles.{IsItselfAmong, IsWithItself}
 use Rattle.module_rules.proofs.Earliest.{up_to_itself, found_more, found_same, found_beside}

@@ -1,5 +1,5 @@
 -- The places at which a type of a module is wrong, or a used name is defined again.
-use Rattle.std.proofs.Common.{◌≡◌, ◌⊎◌, inl, inr, refl, sym, ap, ◌∙◌, subst, ⊎_elim, Bool, true, false, not, ◌&&◌, ◌||◌, if◌then◌else◌, nat_eq, ℕ, zero, suc, ◌<◌, List, [], ◌∷◌, ◌++◌, map, Option, Some, None, slice_get, Contains, arith}
+use Rattle.std.proofs.Common.{◌≡◌, ◌⊎◌, inl, inr, refl, sym, ap, ◌∙◌, subst, ⊎_elim, Bool, true, false, not, ◌&&◌, ◌||◌, if◌then◌else◌, nat_eq, ℕ, zero, suc, ◌<◌, List, [], ◌∷◌, ◌++◌, map, Some, None, slice_get, Contains, arith}
 use Rattle.std.specs.List.{flat_map, list_any, list_all}
 use Rattle.std.specs.Bool.{Decides}
 use Rattle.std.proofs.lemmas.Grind.{flat_map-append}
@@ -16,9 +16,9 @@ use Rattle.ir_core.specs.declared.func.Block.{Block}
 use Rattle.ir_core.specs.declared.func.Func.{Func}
 use Rattle.ir_core.specs.Parts.{names_in_type}
 use Rattle.ir_core.specs.Acyclic.{HasNoVoid, HaveNoVoid}
-use Rattle.ir_core.specs.Stands.{Step, Does, Ends, block_steps, steps}
-use Rattle.ir_core.specs.ValidTypes.{TypeUse, result_use, value_uses, step_uses, func_uses, type_uses, AtType, HasVoid, NamesNoStruct, IsUsed, IsDefinedAgain, StandsForStruct}
-use Rattle.ir_core.proofs.Lists.{Has, has_left, has_right, has_part, has_at, at_has, contains}
+use Rattle.ir_core.specs.Stands.{Does, Ends, block_steps}
+use Rattle.ir_core.specs.ValidTypes.{TypeUse, result_use, value_uses, step_uses, func_uses, type_uses, HasVoid, NamesNoStruct, IsUsed, IsDefinedAgain}
+use Rattle.ir_core.proofs.Lists.{Has, has_left, has_right, has_part, contains}
 use Rattle.module_rules.specs.First.{earlier, earliest, IsFound}
 use Rattle.module_rules.specs.Faults.{place_if, with_number, with_numbers}
 use Rattle.module_rules.specs.TypeFaults.{has_void, have_void, is_void, is_void_wrongly, emptied_defs, is_laid_name, Seen, type_number, is_bad_use, with_use, with_uses, no_uses, def_use, global_uses, code_uses, block_uses, param_types, func_uses_by_block, uses_of, BreaksUses, again_faults}
@@ -92,17 +92,17 @@ used_is s (u ∷ us) = used_is (with_use s u) us ∙ sym (fold-append with_numbe
 
 -- ---- `void`
 
-both_false : (a b : Bool) → (a || b) ≡ false → (a ≡ false) × (b ≡ false)
+pub both_false : (a b : Bool) → (a || b) ≡ false → (a ≡ false) × (b ≡ false)
 both_false false false e = (refl, refl)
 both_false true b e = absurd (let clash : true ≡ false = e in cc)
 both_false false true e = absurd (let clash : true ≡ false = e in cc)
 
-one_true : (a b : Bool) → (a || b) ≡ true → (a ≡ true) ⊎ (b ≡ true)
+pub one_true : (a b : Bool) → (a || b) ≡ true → (a ≡ true) ⊎ (b ≡ true)
 one_true true b e = inl refl
 one_true false b e = inr e
 
 mutual
-  no_void : (t : IrType) → has_void t ≡ false → HasNoVoid t
+  pub no_void : (t : IrType) → has_void t ≡ false → HasNoVoid t
   no_void Void e = absurd (let clash : true ≡ false = e in cc)
   no_void (Int w) e = tt
   no_void Ptr e = tt
@@ -115,7 +115,7 @@ mutual
   no_voids (more_of-IrType t ts) e = let b = both_false (has_void t) (have_void ts) e in (no_void t b.0, no_voids ts b.1)
 
 mutual
-  some_void : (t : IrType) → has_void t ≡ true → HasNoVoid t → ⊥
+  pub some_void : (t : IrType) → has_void t ≡ true → HasNoVoid t → ⊥
   some_void Void e n = n
   some_void (Int w) e n = false_is_not_true e
   some_void Ptr e n = false_is_not_true e
@@ -135,7 +135,7 @@ void_is (Array' n _ items) e = absurd (false_is_not_true e)
 void_is (Struct' _ fields) e = absurd (false_is_not_true e)
 void_is (Named x) e = absurd (false_is_not_true e)
 
-both_true : (a b : Bool) → (a && b) ≡ true → (a ≡ true) × (b ≡ true)
+pub both_true : (a b : Bool) → (a && b) ≡ true → (a ≡ true) × (b ≡ true)
 both_true true true e = (refl, refl)
 both_true true false e = absurd (false_is_not_true e)
 both_true false b e = absurd (false_is_not_true e)
@@ -269,10 +269,10 @@ again_is used names [] = refl
 again_is used names (d ∷ ds) = ap (λ (ps : List Place). place_if (list_any (nat_eq d.name.0) names && is_among used d) d.place ++ ps) (again_is used (with_number names d.name.0) ds)
 
 module _ (m : Module) where
-  abbrev used_numbers : List ℕ
+  abbrev pub used_numbers : List ℕ
   used_numbers = with_numbers [] (flat_map use_numbers (type_uses m))
 
-  used_sound : (x : TypeName) → list_any (nat_eq x.0) used_numbers ≡ true → IsUsed m x
+  pub used_sound : (x : TypeName) → list_any (nat_eq x.0) used_numbers ≡ true → IsUsed m x
   used_sound x e = of_part (in_numbers (flat_map use_numbers (type_uses m)) [] x.0 ((number_decides x.0 used_numbers).0 e))
     where
       of_part : Has [] x.0 ⊎ Has (flat_map use_numbers (type_uses m)) x.0 → IsUsed m x
@@ -282,7 +282,7 @@ module _ (m : Module) where
           let y = has_mapped type_number (names_in_type u.0.ty) x.0 u.2 in
           (u.0, contains (type_uses m) u.0 u.1, contains (names_in_type u.0.ty) x (subst (Has (names_in_type u.0.ty)) (type_of_number y.0 x y.2) y.1))
 
-  used_complete : (x : TypeName) → IsUsed m x → list_any (nat_eq x.0) used_numbers ≡ true
+  pub used_complete : (x : TypeName) → IsUsed m x → list_any (nat_eq x.0) used_numbers ≡ true
   used_complete x h =
       (number_decides x.0 used_numbers).1
       (numbers_in (flat_map use_numbers (type_uses m)) [] x.0

@@ -6,3 +6,8 @@ pub mod SymbolFaults
 pub mod TypeFaults
 pub mod Cycles
 pub mod AlignFaults
+pub mod SizeFaults
+pub mod Walks
+pub mod SameTypes
+pub mod InitFaults
+pub mod TotalFaults

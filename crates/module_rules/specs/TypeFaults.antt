@@ -1,5 +1,5 @@
 -- Where the rule of type names is broken.
-use Rattle.std.specs.Prelude.{◌⊎◌, nat_eq, ℕ, Bool, true, false, not, ◌&&◌, ◌||◌, List, [], ◌∷◌, ◌++◌, map, fold, length, Option, None, is_some}
+use Rattle.std.specs.Prelude.{◌⊎◌, nat_eq, ℕ, Bool, true, false, not, ◌&&◌, ◌||◌, List, [], ◌∷◌, ◌++◌, map, fold, Option, None, is_some}
 use Rattle.std.specs.List.{flat_map, list_any, list_all}
 use Rattle.oi_base.specs.declared.ids.Place.{Place}
 use Rattle.ir_core.specs.declared.ty.TypeName.{TypeName}

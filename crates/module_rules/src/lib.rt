@@ -7,20 +7,29 @@ mod components;
 mod cycles;
 mod first;
 pub mod has_main;
+#[cfg(test)]
+mod init_tests;
+pub mod initialisers;
 mod integers;
 mod measure;
 mod numbers;
+mod same_types;
+pub mod sizes;
 mod struct_names;
 pub mod symbols;
 pub mod target;
 #[cfg(test)]
 mod tests;
+pub mod totals;
 pub mod type_names;
 mod type_parts;
 mod type_uses;
 mod variables;
+mod walk;
 
 pub use first::{earlier, earlier_if, is_up_to};
 pub use integers::{count_fits, counts_fit, fits_type, is_bit, is_pointer, words};
 pub use numbers::Numbers;
+pub use same_types::{same_type, same_width};
 pub use variables::global_numbers;
+pub use walk::{const_walks, is_integer, next_by, walks};

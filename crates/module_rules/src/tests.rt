@@ -1,7 +1,7 @@
-use crate::{alignments, has_main, type_names};
+use crate::{alignments, has_main, sizes, totals, type_names};
 use ir_core::{
     Block, Const, End, Func, GlobalVar, Instr, IrType, LocalId, Module, NamedTypes, Op, Operand,
-    Param, SymId, TypeDef, TypeDefs, TypeName, TypedOperand,
+    Param, Short, SymId, TypeDef, TypeDefs, TypeName, TypedCount, TypedOperand,
 };
 use oi_base::{Boxed, Items, NoMemory, Place, Text, Width};
 use std::alloc::{AllocError, Global};
@@ -60,7 +60,7 @@ fn push_function(alloc: Global, m: &mut Module, text: &str, number: u32) -> Resu
     m.funcs.push(func)
 }
 
-fn module(alloc: Global, text: &str) -> Result<Module, NoMemory> {
+pub fn module(alloc: Global, text: &str) -> Result<Module, NoMemory> {
     let mut m = Module {
         symbols: Items::new(alloc),
         types: NamedTypes {
@@ -208,7 +208,86 @@ B{{i}b} A{b} C{{}};{phh}:16 C1:8 C:16;ai2:2|7
 B{p3C} C{} A{C};{{}p}:8 A:8 {}0;s{B}:2 ai a{p}:4|7
 B{C0p} C{i} A{};b:4 {}:4;l{iAb} l{AA} lB:4294967295|8";
 
-fn named_types(alloc: Global, defs: Items<TypeDef>) -> Result<NamedTypes, NoMemory> {
+// The same without `align`, where behind a global variable's `=` stands the source type of a constant `getelementptr`, its
+// initialiser, and behind `*` an alloca's count. `g` is a `getelementptr` and `c` a store of a constant one. Behind `|` stands
+// the line at which the rule of sizes is broken first.
+const SIZES: &str = ";;|-
+A{b88888888} B{AA0};b88888888 p=A;aA ai*4194304 a{}*99999999 gA cA|-
+A{b888888888} B{Ap};p;lA sB lb888888888|-
+;b88888888 {b88888888b};|2
+A{b888888888};{};aA0|3
+A{BC0} B{b} C{p{Dh}} D{b888888880};{} A;|-
+A{CCCC} B{A} C{b8888888bb8888888};b;aC gB aA|6
+A{b88888888} B{AA0} C{Bb};b;aA aB sC aC|8
+;p b i;ab*16777216 ai*4194305 ab*16777217|5
+A{ii};;a{} aA*2097152 aA*2097153|4
+;;ab888888889*0|1
+;p=b88888888 p={b88888888p} b99999999;|2
+;;lb99999999 gb88888888 gb88888887i gb99999999|4
+A{B} B{i99999999};h;cp c{iA0} aA|5
+A{i9999999} B{A9};b;aA*0 aA*1 aB|4
+A{} B{C} C{i4444} D{B88888} E{D2};E0 D;aE0 aE|6";
+
+// Each row has definitions and global variables as above, the `align` of a variable behind `:`. Expected are the lines with which
+// the data, one behind the other and each at a multiple of its alignment, come to have more than 1,048,576 bytes.
+const TOTALS: &str = ";|-
+;b|-
+;b8888884|-
+;b8888884 b|2
+;b b8888884|2
+;b8888882 b8888882|-
+;b8888884 b0|-
+;b8888884 i0|-
+;b0 b8888884 b b|3
+;i i8888881|2
+;b i888888|2
+;b b8888881 h8888881|-
+;b h8888881 b8888881 b888888|4
+;i777 b i777777 b|-
+;b i88888773 i|2
+;b8888882:0 b:0 b:0|-
+;b:2147483648|-
+;b b:2147483648|2
+;b0 b:2147483648|-
+;b b0:1048576|-
+;b b0:1048577|2
+;b b0:2097152|2
+;b b:524288 b:524288|3
+;b b:524288 b8888882|3
+;b b:524288 b888887777|3
+;b8888884 b0:16|-
+;b8888884 b:4294967295 b0|2
+A{bi} B{Ab};A B A8888 B8888888|6
+A{bi} B{Ab};A88888 B88888 b A|-
+A{bi};A8888882 h|2
+A{bi};A8888882 b0 b0:4096|2
+A{b888888884};b A b|3
+;b i4:1 i4:1 b8888884:3|4";
+
+// Each row has the most bytes of names, and behind `;` the lines and names of global variables, or of functions behind `f`. Behind
+// `|` stands the line with which the names, each with 17 bytes more, come to have more bytes in the order of lines.
+const NAMES: &str = "0;|-
+16;1:|1
+17;1:|-
+35;1:a 2:b|2
+36;1:a 2:b|-
+35;2:b 1:a|2
+17;2:b 1:a|1
+36;3:a 1:b 2:c|3
+53;3:a 1:b 2:c|3
+54;3:a 1:b 2:c|-
+18;f3:a 1:b f2:c|2
+20;1:a f1:b|1
+40;2:a f2:b 1:c|2
+54;5:a 3:b f4:c f2:d 1:e|4
+80;4:aaaaaaaaaa 2:bbb f3:cc 1:d|4
+84;4:aaaaaaaaaa 2:bbb f3:cc 1:d|-
+0;7:x f9:y|7
+72;f1:a f2:b f3:c f4:d 9:e|9
+71;f1:a f2:b f3:c f4:d 9:e|4
+4294967295;2:a 1:b|-";
+
+pub fn named_types(alloc: Global, defs: Items<TypeDef>) -> Result<NamedTypes, NoMemory> {
     let mut names = Items::new(alloc);
     for letter in b'A'..=b'Z' {
         names.push(Text::from_slice(alloc, &[letter])?)?;
@@ -221,6 +300,7 @@ fn named_types(alloc: Global, defs: Items<TypeDef>) -> Result<NamedTypes, NoMemo
 
 fn letter_type(letter: char) -> IrType {
     match letter {
+        'o' => IrType::Int(Width::W1),
         'b' => IrType::Int(Width::W8),
         'h' => IrType::Int(Width::W16),
         'i' => IrType::Int(Width::W32),
@@ -247,7 +327,7 @@ fn take(levels: &mut Vec<Items<IrType>>) -> IrType {
     }
 }
 
-fn type_of(alloc: Global, text: &str) -> Result<IrType, AllocError> {
+pub fn type_of(alloc: Global, text: &str) -> Result<IrType, AllocError> {
     let mut levels = Vec::new(alloc);
     levels.push(Items::new(alloc))?;
     for letter in text.chars() {
@@ -286,13 +366,51 @@ fn aligned(word: &str) -> (&str, Option<u32>) {
     }
 }
 
+/// What stands before a sign `*`, and the count behind it if there is one.
+fn counted(word: &str) -> (&str, Option<TypedCount>) {
+    match word.split_once('*') {
+        Some((before, number)) => (
+            before,
+            Some(TypedCount {
+                ty: IrType::Int(Width::W32),
+                count: i128::from(number.parse::<u32>().unwrap_or(0)),
+            }),
+        ),
+        None => (word, None),
+    }
+}
+
+/// A constant `getelementptr` with a source type and without indices.
+fn address_in(alloc: Global, source: IrType) -> Const {
+    Const::Gep(source, SymId(0), Items::new(alloc))
+}
+
+/// What stands before a sign `=`, and an address in the type behind it, or `undef` if there is none.
+fn initialised(alloc: Global, word: &str) -> Result<(&str, Const), AllocError> {
+    match word.split_once('=') {
+        Some((before, source)) => Ok((before, address_in(alloc, type_of(alloc, source)?))),
+        None => Ok((word, Const::Undef)),
+    }
+}
+
 fn op_of(alloc: Global, word: &str) -> Result<Op, AllocError> {
     let (text, align) = aligned(word);
+    let (text, count) = counted(text);
     let ty = type_of(alloc, text.get(1..).unwrap_or(""))?;
+    let to = undef(IrType::Ptr);
     match text.chars().next() {
-        Some('a') => Ok(Op::Alloca(ty, None, align)),
-        Some('l') => Ok(Op::Load(ty, undef(IrType::Ptr), align)),
-        _ => Ok(Op::Store(undef(ty), undef(IrType::Ptr), align)),
+        Some('a') => Ok(Op::Alloca(ty, count, align)),
+        Some('l') => Ok(Op::Load(ty, to, align)),
+        Some('g') => Ok(Op::Gep(ty, to, Short::new(alloc))),
+        Some('c') => Ok(Op::Store(
+            TypedOperand {
+                ty: IrType::Ptr,
+                value: Operand::Const(address_in(alloc, ty)),
+            },
+            to,
+            align,
+        )),
+        _ => Ok(Op::Store(undef(ty), to, align)),
     }
 }
 
@@ -300,6 +418,7 @@ fn push_global(
     m: &mut Module,
     place: Place,
     ty: IrType,
+    init: Const,
     align: Option<u32>,
 ) -> Result<(), AllocError> {
     m.globals.push(GlobalVar {
@@ -308,7 +427,7 @@ fn push_global(
         internal: false,
         constant: false,
         ty,
-        init: Const::Undef,
+        init,
         align,
     })
 }
@@ -356,13 +475,14 @@ fn with_types(alloc: Global, text: &str) -> Result<Module, NoMemory> {
     for word in variables.split_ascii_whitespace() {
         place.line = place.line.saturating_add(1);
         let (text, align) = aligned(word);
-        push_global(&mut m, place, type_of(alloc, text)?, align)?;
+        let (text, init) = initialised(alloc, text)?;
+        push_global(&mut m, place, type_of(alloc, text)?, init, align)?;
     }
     m.funcs.push(with_code(alloc, place, code)?)?;
     Ok(m)
 }
 
-fn line_of(found: Option<Place>) -> u32 {
+pub fn line_of(found: Option<Place>) -> u32 {
     match found {
         Some(place) => place.line,
         None => 0,
@@ -388,6 +508,81 @@ fn the_first_wrong_alignment(rt: HostRuntime) -> Result<(), Fail> {
         let (text, wanted) = row.split_once('|').ok_or("no wanted line")?;
         let m = with_types(alloc, text)?;
         let found = line_of(alignments::first_break(&m));
+        assert_eq!(rt; found, wanted.parse::<u32>().unwrap_or(0), "{row}");
+    }
+    Ok(())
+}
+
+#[test]
+fn the_first_type_that_is_too_large(rt: HostRuntime) -> Result<(), Fail> {
+    let alloc = rt.alloc();
+    for row in SIZES.lines() {
+        let (text, wanted) = row.split_once('|').ok_or("no wanted line")?;
+        let m = with_types(alloc, text)?;
+        let found = line_of(sizes::first_large(alloc, &m)?);
+        assert_eq!(rt; found, wanted.parse::<u32>().unwrap_or(0), "{row}");
+    }
+    Ok(())
+}
+
+#[test]
+fn the_first_global_beyond_the_data(rt: HostRuntime) -> Result<(), Fail> {
+    let alloc = rt.alloc();
+    for row in TOTALS.lines() {
+        let (text, wanted) = row.split_once('|').ok_or("no wanted line")?;
+        let m = with_types(alloc, text)?;
+        let found = line_of(totals::first_break(alloc, &m)?);
+        assert_eq!(rt; found, wanted.parse::<u32>().unwrap_or(0), "{row}");
+    }
+    Ok(())
+}
+
+/// A function with a name, or a global variable, on a line.
+fn push_named(alloc: Global, m: &mut Module, word: &str, number: u32) -> Result<(), AllocError> {
+    let (line, name) = word.split_once(':').unwrap_or(("", ""));
+    m.symbols.push(Text::from_slice(alloc, name.as_bytes())?)?;
+    let mut func = function(alloc, number, Items::new(alloc));
+    if let Some(line) = line.strip_prefix('f') {
+        func.place.line = line.parse::<u32>().unwrap_or(0);
+        return m.funcs.push(func);
+    }
+    let place = Place {
+        line: line.parse::<u32>().unwrap_or(0),
+        column: 1,
+    };
+    m.globals.push(GlobalVar {
+        place,
+        name: SymId(number),
+        internal: false,
+        constant: false,
+        ty: IrType::Ptr,
+        init: Const::Undef,
+        align: None,
+    })
+}
+
+/// A module with these names alone.
+fn with_names(alloc: Global, text: &str) -> Result<Module, NoMemory> {
+    let mut m = module(alloc, "")?;
+    m.symbols = Items::new(alloc);
+    m.funcs = Items::new(alloc);
+    let mut number = 0u32;
+    for word in text.split_ascii_whitespace() {
+        push_named(alloc, &mut m, word, number)?;
+        number = number.saturating_add(1);
+    }
+    Ok(m)
+}
+
+#[test]
+fn the_first_name_beyond_the_most(rt: HostRuntime) -> Result<(), Fail> {
+    let alloc = rt.alloc();
+    for row in NAMES.lines() {
+        let (text, wanted) = row.split_once('|').ok_or("no wanted line")?;
+        let (most, names) = text.split_once(';').ok_or("no names")?;
+        let m = with_names(alloc, names)?;
+        let most = most.parse::<usize>().unwrap_or(0);
+        let found = line_of(totals::first_past_names(alloc, &m, most)?);
         assert_eq!(rt; found, wanted.parse::<u32>().unwrap_or(0), "{row}");
     }
     Ok(())

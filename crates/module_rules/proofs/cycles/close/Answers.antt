@@ -1,4 +1,4 @@
-use Rattle.std.proofs.Common.{◌≡◌, ◌+◌, ◌≤◌, length, List, ℕ, Some, slice_get, sym, ◌∙◌, subst, arith}
+use Rattle.std.proofs.Common.{◌≡◌, ◌+◌, length, List, ℕ, Some, slice_get, sym, ◌∙◌, subst, arith}
 use Rattle.module_rules.specs.Cycles.{HoldsWithin, IsClosedUpTo, AreReached}
 use Rattle.module_rules.proofs.Listing.{contained}
 use Rattle.module_rules.proofs.Reaching.{reached_more, own_more, closed_more, closed_narrower, few, held_listed}

@@ -1,4 +1,4 @@
-use Rattle.std.proofs.Common.{length, sym, ap, subst, ◌≤◌, ℕ, arith}
+use Rattle.std.proofs.Common.{length, ap, arith}
 use Rattle.module_rules.proofs.Listing.{read_item}
 use Rattle.module_rules.proofs.TypeNameLaws.{none_so_far, one_more, all_so_far}
 use Rattle.module_rules.proofs.cycles.first_itself.Goals as goal

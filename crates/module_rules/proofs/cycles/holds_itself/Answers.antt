@@ -1,8 +1,8 @@
-use Rattle.std.proofs.Common.{◌≡◌, sym, ap, ◌∙◌, subst, Bool, ℕ, List, length, []}
+use Rattle.std.proofs.Common.{sym, ap, ◌∙◌, subst, Bool, ℕ, List, length}
 use Rattle.std.specs.Bool.{Decides}
 use Rattle.ir_core.specs.Acyclic.{HoldsItself}
 use Rattle.module_rules.specs.Faults.{with_numbers}
-use Rattle.module_rules.specs.Cycles.{rank_of, held, HoldsWithin, IsClosedUpTo, AreReached}
+use Rattle.module_rules.specs.Cycles.{held, HoldsWithin, IsClosedUpTo, AreReached}
 use Rattle.module_rules.proofs.Reaching.{reached_first, own_first, itself_decides, held_listed}
 use Rattle.module_rules.proofs.cycles.holds_itself.Goals as goal
 
