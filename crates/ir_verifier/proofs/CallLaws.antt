@@ -34,7 +34,8 @@ use Rattle.module_rules.proofs.Faulty.{has}
 use Rattle.module_rules.proofs.At.{found_in}
 use Rattle.ir_verifier.proofs.PlainOperands.{all_of}
 use Rattle.module_rules.proofs.Earliest.{up_to_total}
-use Rattle.ir_verifier.proofs.KindLaws.{of_kind, of_kinds, kind_of_scalar, kind_of_result, two_true}
+use Rattle.module_rules.proofs.SameTypeLaws.{two_true}
+use Rattle.ir_verifier.proofs.KindLaws.{of_kind, of_kinds, kind_of_scalar, kind_of_result}
 use Rattle.module_rules.proofs.Sets.{number_decides, in_numbers, numbers_in, has_mapped, mapped_has, has_made, symbol_of}
 use Rattle.module_rules.proofs.Distinct.{IsDistinct, distinct_numbers, position_is, no_position, map_at, at_in_next, at_in_first}
 

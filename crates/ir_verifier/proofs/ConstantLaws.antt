@@ -1,7 +1,7 @@
 -- The places at which the rule of constants is broken.
 use Rattle.std.proofs.Common.{sym, subst, not, List, Option, Some, None, All}
 use Rattle.std.specs.List.{list_all}
-use Rattle.ir_core.specs.declared.ty.IrType.{IrType, Int, Array', Struct'}
+use Rattle.ir_core.specs.declared.ty.IrType.{IrType}
 use Rattle.ir_core.specs.declared.constant.Const.{Const}
 use Rattle.ir_core.specs.declared.constant.Const as consts
 use Rattle.ir_core.specs.declared.constant.TypedCount.{TypedCount}

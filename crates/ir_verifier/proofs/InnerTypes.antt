@@ -1,5 +1,5 @@
 -- What an index leads to in a type that is laid out and not too large is so too.
-use Rattle.std.proofs.Common.{◌≡◌, ◌⊎◌, inl, inr, refl, sym, ap, ◌∙◌, subst, ⊎_elim, ℕ, zero, suc, ◌<◌, ◌≤◌, List, [], ◌∷◌, map, length, Option, Some, None, slice_get, Contains, arith}
+use Rattle.std.proofs.Common.{◌≡◌, inl, inr, refl, sym, ap, ◌∙◌, subst, ⊎_elim, ℕ, zero, suc, ◌≤◌, List, [], ◌∷◌, map, length, Option, Some, None, slice_get, Contains}
 use Rattle.std.specs.Prelude.{IsSome}
 use Rattle.std.specs.Option.{option_map, option_map_or, option_and_then}
 use Rattle.std.proofs.lemmas.Bool.{cases_lt}
@@ -12,15 +12,14 @@ use Rattle.ir_core.specs.declared.ty.IrType.TheVariants as types
 use Rattle.ir_core.specs.declared.ty.IrType.TheVariants.{rolls-Array, rolls-Struct}
 use Rattle.ir_core.specs.declared.ty.IrType.TheOpen.{IrType-F}
 use Rattle.ir_core.specs.declared.ty.IrType.TheViews.{out-IrType, roll-IrType, roll-out-IrType, outs-Named}
-use Rattle.ir_core.specs.Parts.{listed}
-use Rattle.ir_core.specs.Sizes.{array_of, empty, behind, rounded, placed, layout_by, name_layout, definition, layout, IsLaid, size, name_of, resolved, types_in, fields}
-use Rattle.ir_core.specs.ValidTypes.{directly_in, LeadsInto, StandsIn, IsTooLarge}
+use Rattle.ir_core.specs.Sizes.{array_of, empty, behind, rounded, placed, name_layout, definition, layout, IsLaid, size, name_of, resolved, types_in}
+use Rattle.ir_core.specs.ValidTypes.{directly_in, StandsIn, IsTooLarge}
 use Rattle.ir_core.specs.ValidConsts.{Index, GoesInto, plain}
 use Rattle.ir_core.proofs.Lists.{Has, contains, has_at}
 use Rattle.ir_core.proofs.Names.{some_value}
 use Rattle.ir_core.proofs.Fields.{named_layout}
 use Rattle.ir_core.proofs.Layouts.{at_array, at_struct}
-use Rattle.ir_verifier.proofs.TypeLaws.{none_at}
+use Rattle.module_rules.proofs.WalkLaws.{none_at}
 
 -- ---- one level of a type
 

@@ -1,37 +1,12 @@
 -- Kinds of types: `void`, `ptr`, and integers of a width.
-use Rattle.std.proofs.Common.{◌≡◌, refl, ap, ◌∙◌, Bool, true, false, ◌&&◌, inl, inr, List, [], ◌∷◌, map, length, suc}
-use Rattle.oi_base.specs.declared.words.Width.{Width}
-use Rattle.oi_base.specs.declared.words.Width.TheVariants.{W1, W8, W16, W32}
+use Rattle.std.proofs.Common.{◌≡◌, refl, ap, ◌∙◌, Bool, true, false, inl, inr, List, [], ◌∷◌, map, length, suc}
 use Rattle.ir_core.specs.declared.ty.IrType.{IrType, Void, Int, Ptr, Array', Struct', Named}
 use Rattle.ir_core.specs.declared.op.TypedOperand.{TypedOperand}
 use Rattle.ir_core.specs.declared.func.Param.{Param}
 use Rattle.ir_core.specs.ValidOps.{IsScalar, IsResultType}
-use Rattle.ir_verifier.specs.CallFaults.{same_width, same_kind, same_kinds}
+use Rattle.ir_verifier.specs.CallFaults.{same_kind, same_kinds}
 use Rattle.module_rules.proofs.Decided.{false_is_not_true}
-
-same_widths : (v w : Width) → same_width v w ≡ true → v ≡ w
-same_widths W1 W1 e = refl
-same_widths W1 W8 e = absurd (false_is_not_true e)
-same_widths W1 W16 e = absurd (false_is_not_true e)
-same_widths W1 W32 e = absurd (false_is_not_true e)
-same_widths W8 W1 e = absurd (false_is_not_true e)
-same_widths W8 W8 e = refl
-same_widths W8 W16 e = absurd (false_is_not_true e)
-same_widths W8 W32 e = absurd (false_is_not_true e)
-same_widths W16 W1 e = absurd (false_is_not_true e)
-same_widths W16 W8 e = absurd (false_is_not_true e)
-same_widths W16 W16 e = refl
-same_widths W16 W32 e = absurd (false_is_not_true e)
-same_widths W32 W1 e = absurd (false_is_not_true e)
-same_widths W32 W8 e = absurd (false_is_not_true e)
-same_widths W32 W16 e = absurd (false_is_not_true e)
-same_widths W32 W32 e = refl
-
-self_width : (w : Width) → same_width w w ≡ true
-self_width W1 = refl
-self_width W8 = refl
-self_width W16 = refl
-self_width W32 = refl
+use Rattle.module_rules.proofs.SameTypeLaws.{same_widths, self_width, two_true}
 
 -- types of one kind are equal
 pub of_kind : (t u : IrType) → same_kind t u ≡ true → t ≡ u
@@ -84,10 +59,6 @@ kind_of_scalar (Named x) s = absurd s
 pub kind_of_result : (t : IrType) → IsResultType t → same_kind t t ≡ true
 kind_of_result t (inl e) = ap (λ (u : IrType). same_kind u u) e
 kind_of_result t (inr s) = kind_of_scalar t s
-
-pub two_true : (s t : Bool) → (s && t) ≡ true → (s ≡ true) × (t ≡ true)
-two_true true t e = (refl, e)
-two_true false t e = absurd (false_is_not_true e)
 
 pub of_kinds : (qs : List Param) (as' : List TypedOperand) → same_kinds qs as' ≡ true → map (λ (q : Param). q.ty) qs ≡ map (λ (a : TypedOperand). a.ty) as'
 of_kinds [] [] e = refl

@@ -1,6 +1,6 @@
 -- In a module that meets the rules of type names and of sizes, the constants of a function that meets those of types and of
 -- constants have offsets that can be told.
-use Rattle.std.proofs.Common.{◌≡◌, ◌⊎◌, inl, inr, refl, sym, ap, ◌∙◌, subst, Bool, true, false, ℕ, zero, suc, ◌<◌, List, [], ◌∷◌, ◌++◌, map, length, Option, Some, None, slice_get, slice_index_or, All, Contains, arith}
+use Rattle.std.proofs.Common.{◌≡◌, inl, inr, refl, sym, ap, ◌∙◌, subst, Bool, true, false, ℕ, zero, suc, ◌<◌, List, [], ◌∷◌, ◌++◌, map, length, Option, Some, None, slice_index_or, All, Contains, arith}
 use Rattle.std.specs.Prelude.{IsTrue, is_some}
 use Rattle.std.specs.Bool.{Decides}
 use Rattle.std.specs.List.{flat_map}
@@ -17,10 +17,8 @@ use Rattle.ir_core.specs.declared.module.Module.{Module}
 use Rattle.ir_core.specs.declared.constant.Const.{Const}
 use Rattle.ir_core.specs.declared.constant.Const as consts
 use Rattle.ir_core.specs.declared.constant.TypedCount.{TypedCount}
-use Rattle.ir_core.specs.declared.op.LocalId.{LocalId}
 use Rattle.ir_core.specs.declared.op.Operand.{Operand}
 use Rattle.ir_core.specs.declared.op.Operand.TheVariants as operands
-use Rattle.ir_core.specs.declared.op.TypedOperand.{TypedOperand}
 use Rattle.ir_core.specs.declared.op.Pair.{Pair}
 use Rattle.ir_core.specs.declared.op.Op.{Op}
 use Rattle.ir_core.specs.declared.op.Op.TheVariants.{Bin, Icmp, Select, Cast, Alloca, Load, Store, Gep, Phi, Call}
@@ -31,9 +29,8 @@ use Rattle.ir_core.specs.Parts.{names_in_type, const_types, operand_consts, op_v
 use Rattle.ir_core.specs.Sizes.{definition, resolved, IsLaid}
 use Rattle.ir_core.specs.Acyclic.{HasNoVoid, HaveNoVoid, HoldsItself, IsAcyclic}
 use Rattle.ir_core.specs.Stands.{Step, Does, Ends, steps, block_steps, typed, operands_of}
-use Rattle.ir_core.specs.ValidTypes.{TypeUse, value_use, value_uses, result_use, op_uses, types_in_values, step_uses, func_uses, type_uses, StandsForStruct, HasVoid, NamesNoStruct, BreaksTypeNames, const_sources, op_sized, step_sized, IsTooLarge, BreaksSizes}
-use Rattle.ir_core.specs.ValidConsts.{ConstWalk, IndicesFit}
-use Rattle.ir_core.specs.ValidOps.{IsScalar, ConstAgrees, OperandAgrees, StepAgrees, OperandFits, BreaksTypes, BreaksConstants}
+use Rattle.ir_core.specs.ValidTypes.{value_use, value_uses, op_uses, types_in_values, step_uses, func_uses, type_uses, BreaksTypeNames, const_sources, op_sized, step_sized, IsTooLarge, BreaksSizes}
+use Rattle.ir_core.specs.ValidOps.{OperandAgrees, StepAgrees, OperandFits, BreaksTypes, BreaksConstants}
 use Rattle.ir_core.proofs.Lists.{Has, has_left, has_right, has_part, has_at, contains}
 use Rattle.ir_core.proofs.Names.{defined}
 use Rattle.ir_core.proofs.AcyclicLemmas.{acyclic_laid}

@@ -1,5 +1,5 @@
 -- One more index of a constant `getelementptr`.
-use Rattle.std.proofs.Common.{◌≡◌, inl, inr, refl, sym, ap, ◌∙◌, subst, ℕ, suc, ◌+◌, ◌%◌, ◌<◌, ◌≤◌, pos, List, [], ◌∷◌, map, length, drop, ℤ, slice_get, Option, Some, None, All, arith}
+use Rattle.std.proofs.Common.{◌≡◌, inl, inr, refl, sym, ap, ◌∙◌, subst, ℕ, suc, ◌+◌, ◌%◌, ◌<◌, pos, List, ◌∷◌, map, length, ℤ, Some, None, arith}
 use Rattle.std.proofs.lemmas.Option.{slice_get_within}
 use Rattle.ir_core.specs.declared.ty.TypeDef.{TypeDef}
 use Rattle.oi_base.specs.declared.words.Width.{Width}
@@ -11,9 +11,9 @@ use Rattle.ir_core.specs.declared.ty.IrType.TheViews.{out-IrType, outs-Array, ou
 use Rattle.ir_core.specs.declared.constant.TypedCount.{TypedCount}
 use Rattle.ir_core.specs.Sizes.{IsLaid, fields}
 use Rattle.ir_core.specs.ValidConsts.{Index, Walk, GoesInto, Fits, FitsType, IndicesFit, const_index, plain, distance_by, distance_into}
-use Rattle.ir_verifier.specs.TypeFaults.{next}
+use Rattle.module_rules.specs.Walks.{next}
 use Rattle.ir_verifier.proofs.InnerTypes.{IsSmall, into_laid, into_small}
-use Rattle.ir_verifier.proofs.TypeLaws.{of_next, to_next}
+use Rattle.module_rules.proofs.WalkLaws.{of_next, to_next}
 
 -- the number of an `i32` that fits it
 word_fits : (t : IrType) (n : ℤ) (k : ℕ) → t ≡ Int W32 → n ≡ pos k → FitsType t n → k < 4294967296

@@ -1,7 +1,7 @@
 -- The places at which the rule of phis is broken.
-use Rattle.std.proofs.Common.{◌≡◌, ◌⊎◌, inl, inr, refl, sym, ap, ◌∙◌, subst, Bool, true, false, not, ◌&&◌, nat_eq, ℕ, zero, suc, List, [], ◌∷◌, ◌++◌, length, Option, Some, None, slice_get, Contains, arith}
+use Rattle.std.proofs.Common.{◌≡◌, ◌⊎◌, inl, inr, refl, sym, ap, ◌∙◌, subst, Bool, true, false, not, ◌&&◌, nat_eq, ℕ, List, [], ◌∷◌, Option, Some, None, Contains}
 use Rattle.std.specs.Bool.{Decides}
-use Rattle.std.specs.List.{flat_map, list_any, list_all, position}
+use Rattle.std.specs.List.{list_any, list_all, position}
 use Rattle.std.proofs.lemmas.Bool.Decides.{Decides-not}
 use Rattle.oi_base.specs.declared.ids.Place.{Place}
 use Rattle.ir_core.specs.declared.ty.TypeDef.{TypeDef}
@@ -15,12 +15,11 @@ use Rattle.ir_core.specs.declared.func.Instr.{Instr}
 use Rattle.ir_core.specs.declared.func.Block.{Block}
 use Rattle.ir_core.specs.declared.func.Func.{Func}
 use Rattle.ir_core.specs.ValidConsts.{Meaning, meaning}
-use Rattle.ir_core.specs.ValidPaths.{Precedes, HasGoodEntries, BreaksPhis}
+use Rattle.ir_core.specs.ValidPaths.{HasGoodEntries, BreaksPhis}
 use Rattle.ir_core.proofs.Lists.{Has, has_part, contains}
 use Rattle.module_rules.specs.First.{earliest, IsFound}
-use Rattle.module_rules.specs.Faults.{place_if}
-use Rattle.ir_verifier.specs.PhiFaults.{row_at, sources_of, same_meaning, Values, no_values, is_value, agrees_at, with_value_at, are_listed, entries_agree, has_good_entries, is_good_phi, phi_fault, block_phi_faults, phi_faults}
-use Rattle.module_rules.proofs.Decided.{always, never, passes, false_is_not_true}
+use Rattle.ir_verifier.specs.PhiFaults.{row_at, sources_of, same_meaning, Values, no_values, is_value, agrees_at, with_value_at, are_listed, entries_agree, has_good_entries, is_good_phi, block_phi_faults, phi_faults}
+use Rattle.module_rules.proofs.Decided.{never, passes, false_is_not_true}
 use Rattle.module_rules.proofs.Earliest.{found}
 use Rattle.module_rules.proofs.Faulty.{has}
 use Rattle.module_rules.proofs.Faulty.{has_fault, fault_has}

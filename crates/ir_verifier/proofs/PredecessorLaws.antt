@@ -1,5 +1,5 @@
 -- The row of a label has the labels of the blocks that lead to it.
-use Rattle.std.proofs.Common.{◌≡◌, ◌≢◌, ◌⊎◌, inl, inr, refl, sym, ap, ◌∙◌, subst, Bool, true, false, nat_eq, ℕ, zero, suc, List, [], ◌∷◌, map, fold, Option, Some, None, slice_get, slice_set, slice_index_or, Contains, arith}
+use Rattle.std.proofs.Common.{◌≡◌, ◌⊎◌, inl, inr, refl, sym, ap, ◌∙◌, subst, Bool, true, false, nat_eq, ℕ, zero, suc, List, [], ◌∷◌, map, fold, Option, Some, None, slice_get, slice_set, slice_index_or, arith}
 use Rattle.std.specs.List.{position}
 use Rattle.std.specs.Option.{option_and_then}
 use Rattle.std.proofs.lemmas.Bool.Decides.{nat_tests}
@@ -10,7 +10,7 @@ use Rattle.ir_core.specs.declared.func.Func.{Func}
 use Rattle.ir_core.specs.Parts.{targets}
 use Rattle.ir_core.specs.ValidFunc.{IsLabel}
 use Rattle.ir_core.specs.ValidPaths.{Precedes}
-use Rattle.ir_core.proofs.Lists.{Has, contains, has_at}
+use Rattle.ir_core.proofs.Lists.{Has, contains}
 use Rattle.module_rules.specs.Faults.{with_number}
 use Rattle.ir_verifier.specs.Faults.{label_number, label_numbers}
 use Rattle.ir_verifier.specs.PhiFaults.{Sources, row_at, no_rows, with_row, with_source, with_sources, with_block, sources_of}

@@ -1,11 +1,11 @@
 -- The places at which the rule of types is broken.
-use Rattle.std.proofs.Common.{◌≡◌, ◌⊎◌, inl, inr, refl, sym, ap, subst, Bool, true, false, not, if◌then◌else◌, List, [], ◌∷◌, ◌++◌, map, Some, None, All, arith}
+use Rattle.std.proofs.Common.{◌≡◌, ◌⊎◌, inl, inr, refl, sym, subst, Bool, true, false, not, List, ◌++◌, map, Some, None, All, arith}
 use Rattle.std.specs.Bool.{Decides}
 use Rattle.std.specs.List.{list_all}
 use Rattle.std.proofs.lemmas.Bool.Decides.{Decides-and, Decides-not, nat_tests}
 use Rattle.oi_base.specs.declared.ids.Place.{Place}
 use Rattle.oi_base.specs.declared.words.Width.{Width}
-use Rattle.oi_base.specs.declared.words.Width.TheVariants.{W1, W8, W16, W32}
+use Rattle.oi_base.specs.declared.words.Width.TheVariants.{W1}
 use Rattle.ir_core.specs.declared.ty.TypeDef.{TypeDef}
 use Rattle.ir_core.specs.declared.ty.IrType.{IrType, Void, Int, Ptr, Array', Struct', Named}
 use Rattle.ir_core.specs.declared.module.Module.{Module}
@@ -29,15 +29,17 @@ use Rattle.ir_core.specs.ValidConsts.{const_index, index_of, IsInteger}
 use Rattle.ir_core.specs.ValidOps.{IsScalar, HasGoodTypes, ConstAgrees, ValueAgrees, OperandAgrees, OpAgrees, EndAgrees, StepAgrees, BreaksTypes}
 use Rattle.ir_core.proofs.Lists.{Has, has_left, has_right, contains}
 use Rattle.module_rules.specs.First.{earliest, IsFound}
-use Rattle.module_rules.specs.Faults.{place_if, step_faults}
+use Rattle.module_rules.specs.Faults.{place_if}
 use Rattle.ir_verifier.specs.CallFaults.{same_kind}
-use Rattle.ir_verifier.specs.TypeFaults.{is_integer, is_scalar, is_result_type, is_good_param, has_good_types, walks, typing_of, const_agrees, value_agrees, operand_agrees, casts, casts_to, fits_op, fits_end, step_agrees, type_faults}
+use Rattle.module_rules.specs.Walks.{is_integer, walks}
+use Rattle.ir_verifier.specs.TypeFaults.{is_scalar, is_result_type, is_good_param, has_good_types, typing_of, const_agrees, value_agrees, operand_agrees, casts, casts_to, fits_op, fits_end, step_agrees, type_faults}
 use Rattle.module_rules.proofs.Decided.{always, never, each}
 use Rattle.module_rules.proofs.Earliest.{found}
 use Rattle.module_rules.proofs.Faulty.{has, has_in}
 use Rattle.module_rules.proofs.Faulty.{places, has_fault, fault_has}
 use Rattle.module_rules.proofs.At.{step_places}
-use Rattle.ir_verifier.proofs.TypeLaws.{integer_decides, scalar_decides, result_decides, kind_decides, scalar_kind, scalar_of_integer, and_then, local_decides, walk_decides}
+use Rattle.module_rules.proofs.WalkLaws.{integer_decides, and_then, walk_decides}
+use Rattle.ir_verifier.proofs.TypeLaws.{scalar_decides, result_decides, kind_decides, scalar_kind, scalar_of_integer, local_decides}
 
 cast_decides : (c : CastOp) (from to : Width) → Decides (casts c from to) (is_cast c from to)
 cast_decides Zext from to = (λ e. grind (arith, nat_tests), λ h. grind (arith, nat_tests))

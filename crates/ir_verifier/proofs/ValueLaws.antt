@@ -5,15 +5,13 @@ use Rattle.std.proofs.lemmas.Bool.Decides.{nat_tests}
 use Rattle.std.proofs.lemmas.Option.{slice_get_within}
 use Rattle.std.proofs.lemmas.List.{length-append}
 use Rattle.ir_core.specs.declared.module.SymId.{SymId}
-use Rattle.ir_core.specs.declared.op.LocalId.{LocalId}
 use Rattle.ir_core.specs.ValidConsts.{Meaning, OfLocal, IsWord, IsNull, IsAddress, IsPoison, HasNone}
 use Rattle.ir_core.proofs.Lists.{Has, has_at}
-use Rattle.module_rules.specs.Faults.{with_number}
 use Rattle.ir_verifier.specs.PhiFaults.{same_meaning, Values, with_value_at}
 use Rattle.module_rules.proofs.Decided.{false_is_not_true}
 use Rattle.module_rules.proofs.Distinct.{IsDistinct, position_is, no_position, at_in_first, at_in_next}
 use Rattle.module_rules.proofs.Sets.{number_decides}
-use Rattle.ir_verifier.proofs.KindLaws.{two_true}
+use Rattle.module_rules.proofs.SameTypeLaws.{two_true}
 use Rattle.module_rules.proofs.Sets.{local_of as same_local}
 use Rattle.module_rules.proofs.Sets.{symbol_of}
 

@@ -3,8 +3,7 @@ use Rattle.std.specs.Prelude.{ℕ, Bool, true, false, not, ◌&&◌, ◌||◌, n
 use Rattle.std.specs.List.{flat_map, list_any, position}
 use Rattle.std.specs.Option.{option_and_then}
 use Rattle.oi_base.specs.declared.ids.Place.{Place}
-use Rattle.oi_base.specs.declared.words.Width.{Width}
-use Rattle.oi_base.specs.declared.words.Width.TheVariants.{W1, W8, W16, W32}
+use Rattle.oi_base.specs.declared.words.Width.TheVariants.{W32}
 use Rattle.ir_core.specs.declared.ty.IrType.{IrType, Void, Int, Ptr}
 use Rattle.ir_core.specs.declared.module.SymId.{SymId}
 use Rattle.ir_core.specs.declared.module.Declaration.{Declaration}
@@ -18,15 +17,9 @@ use Rattle.ir_core.specs.declared.func.Func.{Func}
 use Rattle.ir_core.specs.declared.func.Param.{Param}
 use Rattle.ir_core.specs.Stands.{symbol_text}
 use Rattle.module_rules.specs.Faults.{place_if, numbers_of}
+use Rattle.module_rules.specs.SameTypes.{same_width}
 
 -- ---- kinds of types
-
-abbrev pub same_width : Width → Width → Bool
-same_width W1 W1 = true
-same_width W8 W8 = true
-same_width W16 W16 = true
-same_width W32 W32 = true
-same_width _ _ = false
 
 -- both are `void`, `ptr`, or integers of one width
 abbrev pub same_kind : IrType → IrType → Bool

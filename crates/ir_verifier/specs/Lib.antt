@@ -3,3 +3,5 @@ pub mod CallFaults
 pub mod TypeFaults
 pub mod PhiFaults
 pub mod Forms
+pub mod Verdict
+pub mod Plain

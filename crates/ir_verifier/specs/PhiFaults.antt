@@ -1,5 +1,5 @@
 -- The places at which the rule of phis is broken, in text order.
-use Rattle.std.specs.Prelude.{◌≡◌, ℕ, Bool, true, false, not, ◌&&◌, nat_eq, if◌then◌else◌, List, [], ◌∷◌, ◌++◌, length, map, fold, Option, Some, None, slice_get, slice_set, slice_index_or, All}
+use Rattle.std.specs.Prelude.{ℕ, Bool, true, false, not, ◌&&◌, nat_eq, List, [], ◌∷◌, ◌++◌, fold, Option, Some, None, slice_get, slice_set, slice_index_or, All}
 use Rattle.std.specs.List.{flat_map, list_any, list_all, position}
 use Rattle.std.specs.Option.{option_and_then}
 use Rattle.oi_base.specs.declared.ids.Place.{Place}

@@ -1,17 +1,15 @@
 -- The places at which the rule of types is broken, in text order.
-use Rattle.std.specs.Prelude.{ℕ, ℤ, pos, negsuc, Bool, true, false, not, ◌&&◌, nat_eq, nat_lt, if◌then◌else◌, List, [], ◌∷◌, ◌++◌, map, Option, Some, None, slice_get}
+use Rattle.std.specs.Prelude.{ℕ, Bool, true, false, not, ◌&&◌, nat_eq, nat_lt, if◌then◌else◌, List, [], ◌∷◌, ◌++◌, map, Option, Some, None}
 use Rattle.std.specs.List.{flat_map, list_any, list_all}
 use Rattle.oi_base.specs.declared.ids.Place.{Place}
 use Rattle.oi_base.specs.declared.words.Width.{Width}
 use Rattle.oi_base.specs.declared.words.Width.TheVariants.{W1, W8, W16, W32}
 use Rattle.oi_base.specs.Words.{bits}
 use Rattle.ir_core.specs.declared.ty.TypeDef.{TypeDef}
-use Rattle.ir_core.specs.declared.ty.IrType.{IrType, Void, Int, Ptr, out-IrType}
-use Rattle.ir_core.specs.declared.ty.IrType.TheOpen.{IrType-F}
+use Rattle.ir_core.specs.declared.ty.IrType.{IrType, Void, Int, Ptr}
 use Rattle.ir_core.specs.declared.module.Module.{Module}
 use Rattle.ir_core.specs.declared.constant.Const.{Const}
 use Rattle.ir_core.specs.declared.constant.Const as consts
-use Rattle.ir_core.specs.declared.constant.TypedCount.{TypedCount}
 use Rattle.ir_core.specs.declared.flat.CastOp.{CastOp}
 use Rattle.ir_core.specs.declared.flat.CastOp.TheVariants.{Zext, Sext, Trunc}
 use Rattle.ir_core.specs.declared.op.LocalId.{LocalId}
@@ -28,16 +26,13 @@ use Rattle.ir_core.specs.declared.func.Block.{Block}
 use Rattle.ir_core.specs.declared.func.Func.{Func}
 use Rattle.ir_core.specs.declared.func.Param.{Param}
 use Rattle.ir_core.specs.Stands.{Step, Does, Ends, op_operands, end_operands}
-use Rattle.ir_core.specs.ValidConsts.{Index, const_index, index_of, plain}
+use Rattle.ir_core.specs.ValidConsts.{const_index, index_of}
 use Rattle.ir_core.specs.ValidOps.{op_result}
 use Rattle.module_rules.specs.Faults.{place_if, step_faults, with_numbers, numbers_of}
+use Rattle.module_rules.specs.Walks.{is_integer, walks}
 use Rattle.ir_verifier.specs.CallFaults.{same_kind}
 
 -- ---- kinds of types
-
-abbrev pub is_integer : IrType → Bool
-is_integer (Int w) = true
-is_integer _ = false
 
 -- what a register may hold
 abbrev pub is_scalar : IrType → Bool
@@ -101,36 +96,6 @@ numbers_in r _ = []
 
 abbrev pub has_type : Registers → LocalId → IrType → Bool
 has_type r x t = list_any (nat_eq x.0) (numbers_in r t)
-
--- ---- the indices of a `getelementptr`
-
--- the field of this number
-abbrev pub field_at : List IrType → Option ℤ → Option IrType
-field_at types None = None
-field_at types (Some (pos k)) = slice_get types k
-field_at types (Some (negsuc k)) = None
-
--- what an index leads to, from one level of a type
-abbrev pub inner : Index → IrType-F IrType → Option IrType
-inner i (IrType-F.Array n item) = Some item
-inner i (IrType-F.Struct types) = if same_kind i.ty (Int W32) then field_at types i.number else None
-inner i _ = None
-
-abbrev pub next : List TypeDef → IrType → Index → Option IrType
-next defs t i = if is_integer i.ty then inner i (out-IrType (plain defs t)) else None
-
-abbrev pub walks_from : Option IrType → (IrType → Bool) → Bool
-walks_from None on = false
-walks_from (Some u) on = on u
-
--- the indices behind the first
-abbrev pub walks_into : List TypeDef → IrType → List Index → Bool
-walks_into defs t [] = true
-walks_into defs t (i ∷ is) = walks_from (next defs t i) (λ u. walks_into defs u is)
-
-abbrev pub walks : List TypeDef → IrType → List Index → Bool
-walks defs t [] = true
-walks defs t (i ∷ is) = is_integer i.ty && walks_into defs t is
 
 -- ---- operands
 

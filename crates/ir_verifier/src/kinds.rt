@@ -1,8 +1,16 @@
 ghost use Rattle.std.specs.Prelude.{◌≡◌};
-ghost use Rattle.ir_verifier.specs.CallFaults.{same_width, same_kind, same_kinds};
+ghost use Rattle.ir_verifier.specs.CallFaults.{same_kind, same_kinds};
+ghost use Rattle.ir_verifier.specs.TypeFaults.{is_scalar};
 
 use ir_core::{IrType, Param, TypedOperand};
-use oi_base::Width;
+use module_rules::same_width;
+
+/// Whether it is a type of registers.
+pub fn is_scalar(t: &IrType) -> bool
+    ensures { result ≡ is_scalar t.now }
+{
+    matches!(t, IrType::Int(_) | IrType::Ptr)
+}
 
 /// Whether both types are `void`, both `ptr`, or both integers of one width.
 pub fn same_kind(t: &IrType, u: &IrType) -> bool
@@ -13,12 +21,6 @@ pub fn same_kind(t: &IrType, u: &IrType) -> bool
         (IrType::Int(v), IrType::Int(w)) => same_width(*v, *w),
         _ => false,
     }
-}
-
-fn same_width(v: Width, w: Width) -> bool
-    ensures { result ≡ same_width v w }
-{
-    v == w
 }
 
 /// Whether the arguments are as many as the parameters, and of their kinds.

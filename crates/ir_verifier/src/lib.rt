@@ -7,11 +7,15 @@ mod calls;
 mod cases;
 mod constants;
 mod entry;
+mod fault;
 mod kinds;
+mod laws;
 mod meanings;
 mod names;
 mod offsets;
 mod phis;
+#[cfg(test)]
+mod plain;
 mod positions;
 mod predecessors;
 mod references;
@@ -22,4 +26,10 @@ mod scope;
 #[cfg(test)]
 mod tests;
 mod types;
-mod walk;
+#[cfg(test)]
+mod verdict_tests;
+mod verifying;
+
+pub use fault::RuleFault;
+pub use laws::a_module_has_one_verdict;
+pub use verifying::verify;

@@ -5,8 +5,8 @@ ghost use Rattle.ir_core.specs.ValidTypes.{IsTooLarge};
 ghost use Rattle.ir_core.specs.ValidConsts.{FitsType, Walk, ConstWalk, IndicesFit, GoesInto, const_index, plain, index_moves, distance_by, distance_into, gep_offset};
 
 use crate::cases::word_of;
-use crate::walk::next_by;
 use ir_core::{IrType, Module, TypedCount, field_offset, size_of};
+use module_rules::next_by;
 use oi_base::sext;
 
 /// How far a constant `getelementptr` leads from its global, modulo two to the 32.

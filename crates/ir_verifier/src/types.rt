@@ -10,14 +10,13 @@ ghost use Rattle.module_rules.specs.First.{earliest, IsFound};
 ghost use Rattle.module_rules.specs.Faults.{block_faults};
 ghost use Rattle.ir_verifier.specs.TypeFaults.{is_result_type, is_good_param, has_good_types, typing_of, const_agrees, value_agrees, operand_agrees, casts, casts_to, op_agrees, end_agrees, step_agrees, type_faults};
 
-use crate::kinds::same_kind;
+use crate::kinds::{is_scalar, same_kind};
 use crate::registers::Registers;
-use crate::walk::{const_walks, is_integer, is_scalar, walks};
 use ir_core::{
     Block, CastOp, Const, End, Func, IrType, Module, Op, Operand, Pair, Param, SwitchCase,
     TypeDefs, TypedOperand,
 };
-use module_rules::earlier_if;
+use module_rules::{const_walks, earlier_if, is_integer, walks};
 use oi_base::{NoMemory, Place, Width};
 use std::alloc::Global;
 use std::marker::Model;

@@ -1,0 +1,7 @@
+use Rattle.std.proofs.Common.{◌≡◌, drop}
+use Rattle.std.specs.List.{list_all}
+use Rattle.ir_verifier.specs.Plain.{has_no_zero}
+use Rattle.ir_verifier.proofs.plain.has_no_zero.Given as goal
+
+abbrev pub invariant-loop-byte : goal.invariant-loop-byte
+invariant-loop-byte l = has_no_zero (drop l.byte-index l.bytes) ≡ has_no_zero l.bytes
