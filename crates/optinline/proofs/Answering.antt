@@ -1,59 +1,142 @@
 -- The answer to words on a desk with files is a function of both.
-use Rattle.std.proofs.Common.{◌≡◌, ◌⊎◌, Bool, true, false, List, ℕ, length, Option, Some, None, Result, Ok, Err, refl, sym, ap, ◌∙◌, inl, inr}
+use Rattle.std.proofs.Common.{◌≡◌, ◌≢◌, Bool, true, false, List, [], ◌∷◌, ℕ, zero, suc, ◌≤◌, length, Option, Some, None, Ok, Err, slice_get, Contains, refl, sym, ap, ap₂, ◌∙◌, subst, inl, inr, arith}
 use Rattle.std.specs.Prelude.{nat_lt, MatchBool, codes, ◌++◌}
 use Rattle.std.specs.FinMap as finite
+use Rattle.oi_base.specs.declared.ids.Place.{Place}
 use Rattle.oi_world.specs.Desk.{Files}
-use Rattle.ir_lexer.specs.declared.fault.LexFault.{LexFault}
 use Rattle.ir_lexer.specs.declared.table.Spot.{Spot}
-use Rattle.ir_lexer.specs.Lexing.{whole, Lexes}
-use Rattle.ir_lexer.proofs.Total.{some_answer}
-use Rattle.optinline.specs.declared.body.Body.{Body}
-use Rattle.optinline.specs.Reading.{Reads}
-use Rattle.optinline.specs.Parsing.{main_of}
+use Rattle.ir_core.specs.declared.module.Module.{Module}
+use Rattle.ir_core.specs.Valid.{IsValid}
+use Rattle.call_graph.specs.declared.sites.Site.{Site}
+use Rattle.call_graph.specs.Sites.{all_sites}
+use Rattle.ir_grammar.specs.declared.which.Which.{Which}
+use Rattle.ir_grammar.specs.declared.which.Which.TheVariants as limits
+use Rattle.ir_grammar.specs.Forms.{Why, Refused, Exceeds, Outcome}
+use Rattle.ir_grammar.specs.Pieces.{Piece, Is, Bad}
+use Rattle.ir_grammar.specs.Words.{is_left_out}
+use Rattle.ir_grammar.specs.Reading.{ReadsWithinLimits, FirstRefused, read as reading}
+use Rattle.ir_grammar.proofs.Faults.{read_to_end, first_refused, exceeded_place, exceeded_told}
+use Rattle.ir_phrases.specs.declared.fault.ReadFault.{ReadFault}
+use Rattle.ir_phrases.specs.declared.fault.ReadFault.TheVariants as faults
+use Rattle.ir_reader.specs.Refusals.{ExceedsNone, IsRefusal}
+use Rattle.ir_verifier.proofs.OneVerdict.{one_first, one_first_broken, broken_not_valid, none_is_valid}
+use Rattle.module_rules.specs.First.{earliest, IsFound}
 use Rattle.optinline.specs.Words.{Words, command_of}
-use Rattle.optinline.specs.Answer.{Answer, refusal, built, module_limit, IsModuleAnswer, left_out, accepted, IsFileAnswer, IsCommandAnswer, IsAnswer}
-use Rattle.optinline.proofs.ReadingLaws.{text_read, text_given, text_not, not_none, one_main}
+use Rattle.optinline.specs.MainBody.{main_body}
+use Rattle.optinline.specs.Unbuilt.{unbuilt}
+use Rattle.optinline.specs.Answer.{Answer, refusal, refused, rule_word, not_yet, fault_place, fault_word, built, module_limit, IsValidAnswer, not_built, accepted, IsReadAnswer, broken, valid, IsModuleAnswer, unread, read, IsFileAnswer, IsCommandAnswer, IsAnswer}
+use Rattle.optinline.proofs.Answered.{first_of_some}
+use Rattle.optinline.proofs.FirstUnbuilt.{first_place}
+use Rattle.optinline.proofs.Refusals.{refusal_said, refusal_none, one_within}
 
 -- ---- there is one
 
--- a text is that of a `main`, or of none
-decided : (bytes : List ℕ) → ((b : Body) × Reads bytes b) ⊎ ((b : Body) → Reads bytes b → ⊥)
-decided bytes = let a = some_answer (whole bytes) in by_lexer a.0 a.1
-  where
-    by_main : (ss : List Spot) (m : Option Body) → Lexes (whole bytes) (Ok ss) → main_of ss ≡ m → ((b : Body) × Reads bytes b) ⊎ ((b : Body) → Reads bytes b → ⊥)
-    by_main ss None h e = inr (λ b r. not_none b (sym (text_given bytes ss b h r) ∙ e))
-    by_main ss (Some b) h e = inl (b, text_read bytes ss b h e)
+-- why a reading ends, where it has a fault
+abbrev why_of : Outcome Module → Why
+why_of (Ok r) = Refused
+why_of (Err d) = d.why
 
-    by_lexer : (o : Result (List Spot) LexFault) → Lexes (whole bytes) o → ((b : Body) × Reads bytes b) ⊎ ((b : Body) → Reads bytes b → ⊥)
-    by_lexer (Ok ss) h = by_main ss (main_of ss) h refl
-    by_lexer (Err f) h = inr (λ b r. text_not bytes f b h r)
+other_why : (w : Which) → Refused ≡ Exceeds w → ⊥
+other_why w e = cc
 
-on_module : (words : Words) (bytes : List ℕ) → ((b : Body) × Reads bytes b) ⊎ ((b : Body) → Reads bytes b → ⊥) → (a : Answer) × IsModuleAnswer words bytes a
-on_module words bytes (inl r) = (built words r.0, accepted r.0 r.1 refl)
-on_module words bytes (inr none) = (refusal 4 (codes "module 1:1 left out\n"), left_out none refl)
+module _ (words : Words) where
+  module _ (m : Module) (none : (a : Answer) → IsReadAnswer words m a → ⊥) where
+    if_valid : IsValid m → ⊥
+    if_valid v = by_first (earliest None (unbuilt m)) (first_place (unbuilt m))
+      where
+        no_place : (ps : List Place) → ((p : Place) → Contains ps p → ⊥) → ps ≡ []
+        no_place [] h = refl
+        no_place (p ∷ ps) h = absurd (h p (0, omega arith, refl))
 
-on_length : (words : Words) (bytes : List ℕ) (long : Bool) → (a : Answer) × MatchBool long (a ≡ refusal 9 (codes "too long " ++ words.«module» ++ codes "\n")) (IsModuleAnswer words bytes a)
-on_length words bytes true = (refusal 9 (codes "too long " ++ words.«module» ++ codes "\n"), refl)
-on_length words bytes false = on_module words bytes (decided bytes)
+        by_first : (o : Option Place) → IsFound (λ q. Contains (unbuilt m) q) o → ⊥
+        by_first None h = none (built words (main_body m)) (valid v (accepted (no_place (unbuilt m) h) refl))
+        by_first (Some p) h = none (not_yet p) (valid v (not_built p h refl))
 
-on_file : (words : Words) (file : Option (List ℕ)) → (a : Answer) × IsFileAnswer words file a
-on_file words None = (refusal 18 (codes "absent " ++ words.«module» ++ codes "\n"), refl)
-on_file words (Some bytes) = on_length words bytes (nat_lt module_limit (length bytes))
+    not_read : ⊥
+    not_read = if_valid (none_is_valid m (λ rule p h. none (refused p (rule_word rule)) (broken rule p h refl)))
 
-on_command : (command : Option Words) (files : Files) → (a : Answer) × IsCommandAnswer command files a
-on_command None files = (refusal 2 (codes "words\n"), refl)
-on_command (Some words) files = on_file words (finite.get files words.«module»)
+  module _ (bytes : List ℕ) (none : (a : Answer) → IsModuleAnswer words bytes a → ⊥) where
+    not_refused : (e : ReadFault) → e ≢ faults.NoMemory → IsRefusal bytes e → ⊥
+    not_refused e other h = none (refused (fault_place e) (fault_word e)) (unread e other h refl)
 
-pub some_answer_to : (words : List (List ℕ)) (files : Files) → (a : Answer) × IsAnswer words files a
-some_answer_to words files = on_command (command_of words) files
+    -- a token that is refused
+    at_token : (at : List Piece) → reading bytes ≡ Err (record { at = at; why = Refused }) → ⊥
+    at_token at e = let f = first_refused bytes at e in by_piece f.0 f.1 f.2 f.4
+      where
+        no_limit : ExceedsNone bytes
+        no_limit w u t rest x = other_why w (sym (ap why_of e) ∙ ap why_of (exceeded_told bytes w u t rest x))
+
+        by_name : (u rest : List Piece) (s : Spot) (b : Bool) → is_left_out s.token ≡ b → FirstRefused bytes u (Is s) rest → ⊥
+        by_name u rest s true b first = not_refused (faults.LeftOut s.place) (λ z. cc) (u, rest, s, first, refl, b, no_limit)
+        by_name u rest s false b first = not_refused (faults.Syntax s.place) (λ z. cc) (u, rest, s, first, refl, b, no_limit)
+
+        by_piece : (u rest : List Piece) (t : Piece) → FirstRefused bytes u t rest → ⊥
+        by_piece u rest (Bad x) first = not_refused (faults.Lexical x) (λ z. cc) ((u, rest, first), no_limit)
+        by_piece u rest (Is s) first = by_name u rest s (is_left_out s.token) refl first
+
+    at_limit : (at : List Piece) (w : Which) → reading bytes ≡ Err (record { at = at; why = Exceeds w }) → ⊥
+    at_limit at w e = let x = exceeded_place bytes at w e in not_refused (faults.Limit x.2.place w) (λ z. cc) (inl (x.0, x.1, x.2, x.4, refl))
+
+    at_module : (m : Module) → ReadsWithinLimits bytes m → ⊥
+    at_module m h = by_site (slice_get (all_sites m.funcs) 4096) refl
+      where
+        by_site : (o : Option Site) → slice_get (all_sites m.funcs) 4096 ≡ o → ⊥
+        by_site (Some s) e = not_refused (faults.Limit s.place limits.Sites) (λ z. cc) (inr (refl, (m, h, s, e, refl)))
+        by_site None e = not_read m (λ a k. none a (read m (h, few (all_sites m.funcs) 4096 e) k))
+          where
+            few : (ss : List Site) (n : ℕ) → slice_get ss n ≡ None → length ss ≤ n
+            few [] n z = omega arith
+            few (s ∷ ss) zero z = absurd cc
+            few (s ∷ ss) (suc n) z = let l = few ss n z in omega (arith, l)
+
+    not_module : ⊥
+    not_module = by_reading (reading bytes) refl
+      where
+        by_reading : (o : Outcome Module) → reading bytes ≡ o → ⊥
+        by_reading (Ok r) e = at_module r.0 (read_to_end bytes r.0 r.1 e)
+        by_reading (Err d) e = by_why d.why d.at e
+          where
+            by_why : (why : Why) (at : List Piece) → reading bytes ≡ Err (record { at = at; why = why }) → ⊥
+            by_why Refused at z = at_token at z
+            by_why (Exceeds w) at z = at_limit at w z
+
+  not_long : (bytes : List ℕ) (long : Bool) → ((a : Answer) → MatchBool long (a ≡ refusal 9 (codes "too long " ++ words.«module» ++ codes "\n")) (IsModuleAnswer words bytes a) → ⊥) → ⊥
+  not_long bytes true none = none (refusal 9 (codes "too long " ++ words.«module» ++ codes "\n")) refl
+  not_long bytes false none = not_module bytes none
+
+  not_file : (file : Option (List ℕ)) → ((a : Answer) → IsFileAnswer words file a → ⊥) → ⊥
+  not_file None none = none (refusal 18 (codes "absent " ++ words.«module» ++ codes "\n")) refl
+  not_file (Some bytes) none = not_long bytes (nat_lt module_limit (length bytes)) none
+
+not_command : (command : Option Words) (files : Files) → ((a : Answer) → IsCommandAnswer command files a → ⊥) → ⊥
+not_command None files none = none (refusal 2 (codes "words\n")) refl
+not_command (Some words) files none = not_file words (finite.get files words.«module») none
+
+pub not_unanswered : (words : List (List ℕ)) (files : Files) → ((a : Answer) → IsAnswer words files a → ⊥) → ⊥
+not_unanswered words files none = not_command (command_of words) files none
 
 -- ---- there is one at most
 
+same_on_valid : (words : Words) (m : Module) (a b : Answer) → IsValidAnswer words m a → IsValidAnswer words m b → a ≡ b
+same_on_valid words m a b (not_built p first e) (not_built q next f) = e ∙ ap not_yet (one_first (λ r. Contains (unbuilt m) r) p q first next) ∙ sym f
+same_on_valid words m a b (not_built p first e) (accepted all f) = absurd (first_of_some (unbuilt m) p first all)
+same_on_valid words m a b (accepted all e) (not_built q next f) = absurd (first_of_some (unbuilt m) q next all)
+same_on_valid words m a b (accepted all e) (accepted also f) = e ∙ sym f
+
+same_on_read : (words : Words) (m : Module) (a b : Answer) → IsReadAnswer words m a → IsReadAnswer words m b → a ≡ b
+same_on_read words m a b (broken rule p h e) (broken other q g f) =
+    let one = one_first_broken m rule other p q h g in
+    e ∙ ap₂ (λ (r : Place) (n : ℕ). refused r (rule_word n)) one.1 one.0 ∙ sym f
+same_on_read words m a b (broken rule p h e) (valid v f) = absurd (broken_not_valid m rule p h v)
+same_on_read words m a b (valid v e) (broken rule p h f) = absurd (broken_not_valid m rule p h v)
+same_on_read words m a b (valid v e) (valid u f) = same_on_valid words m a b e f
+
 same_on_module : (words : Words) (bytes : List ℕ) (a b : Answer) → IsModuleAnswer words bytes a → IsModuleAnswer words bytes b → a ≡ b
-same_on_module words bytes a b (left_out n e) (left_out m f) = e ∙ sym f
-same_on_module words bytes a b (left_out n e) (accepted y r f) = absurd (n y r)
-same_on_module words bytes a b (accepted x r e) (left_out m f) = absurd (m x r)
-same_on_module words bytes a b (accepted x r e) (accepted y q f) = e ∙ ap (built words) (one_main bytes x y r q) ∙ sym f
+same_on_module words bytes a b (unread d other h e) (unread g also k f) =
+    e ∙ ap (λ (s : Place × List ℕ). refused s.0 s.1) (refusal_said bytes d other h ∙ sym (refusal_said bytes g also k)) ∙ sym f
+same_on_module words bytes a b (unread d other h e) (read m k f) = absurd (refusal_none bytes d other h m k)
+same_on_module words bytes a b (read m k e) (unread d other h f) = absurd (refusal_none bytes d other h m k)
+same_on_module words bytes a b (read m h e) (read n k f) = same_on_read words m a b e (subst (λ (x : Module). IsReadAnswer words x b) (one_within bytes n m k h) f)
 
 same_on_length : (words : Words) (bytes : List ℕ) (long : Bool) (t : Answer) (a b : Answer) → MatchBool long (a ≡ t) (IsModuleAnswer words bytes a) → MatchBool long (b ≡ t) (IsModuleAnswer words bytes b) → a ≡ b
 same_on_length words bytes true t a b e f = e ∙ sym f

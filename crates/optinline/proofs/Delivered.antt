@@ -17,16 +17,23 @@ use Rattle.elf_object.specs.Image.{Parts, IsNamed, HasWords, IsImage, IsLocalFir
 use Rattle.rv_select.proofs.Texts.{bytes_length}
 use Rattle.rv_select.specs.Parts.{stub}
 use Rattle.rv_select.specs.Texts.{bytes_of}
+use Rattle.oi_base.specs.declared.ids.Place.{Place}
+use Rattle.ir_core.specs.declared.module.Module.{Module}
+use Rattle.ir_core.specs.Proper.{IsProper}
+use Rattle.ir_core.specs.Valid.{IsValid}
+use Rattle.ir_reader.specs.Refusals.{ReadsWithin}
 use Rattle.optinline.specs.declared.body.Body.{Body}
 use Rattle.optinline.specs.Lowering.{frame_size, size, main_code}
 use Rattle.optinline.specs.Executable.{image, main_function, object}
-use Rattle.optinline.specs.Reading.{Reads}
 use Rattle.optinline.specs.Reply.{after_writes}
 use Rattle.optinline.specs.Words.{Words, files_differ, checked, budget_of, command_of}
-use Rattle.optinline.specs.Answer.{Answer, refusal, built, certificate, module_limit, IsModuleAnswer, left_out, accepted, IsFileAnswer, IsCommandAnswer, IsAnswer}
-use Rattle.optinline.specs.Meaning.{IsDefined, module_of}
+use Rattle.optinline.specs.MainBody.{main_body}
+use Rattle.optinline.specs.Unbuilt.{unbuilt}
+use Rattle.optinline.specs.Answer.{Answer, refusal, refused, rule_word, fault_place, fault_word, built, certificate, module_limit, IsValidAnswer, not_built, accepted, IsReadAnswer, broken, valid, IsModuleAnswer, unread, read, IsFileAnswer, IsCommandAnswer, IsAnswer}
 use Rattle.optinline.specs.Delivered.{DoesAs, Delivers}
-use Rattle.optinline.proofs.Defined.{reads_defined}
+use Rattle.optinline.proofs.Answered.{refused_status, not_yet_status}
+use Rattle.optinline.proofs.ModuleRuns.{main_defined}
+use Rattle.optinline.proofs.Refusals.{read_proper}
 use Rattle.optinline.proofs.Lengths.{len-main_code}
 use Rattle.optinline.proofs.Refined.{image_refines_module}
 
@@ -132,42 +139,48 @@ module _ (b : Body) (few : length b.ops ≤ 400) where
   symbol_words =
       let m = len-main_code b in
       subst (All HasWords) (sym one_symbol) (All-cons HasWords main_symbol [] (record { value = omega arith; size = omega arith }) (λ k d h. absurd (omega arith)))
-
   -- ---- the files
 
-  does_as : (names : List (List ℕ)) → IsDefined b → DoesAs (module_of names b) (frame_size (length b.ops)) (object b) i
-  does_as names defined = record { file = refl; bounds = bounds; words = symbol_words; refines = image_refines_module names b defined }
+module _ (m : Module) (proper : IsProper m) (valid : IsValid m) (all : unbuilt m ≡ []) where
+  few : length (main_body m).ops ≤ 400
+  few = (main_defined m proper valid all).few
 
--- the files after a build of this `main`
-written : (words : List (List ℕ)) (w : Words) (before : Files) (bytes : List ℕ) (b : Body) (fs' : Option Files) → command_of words ≡ Some w → finite.get before w.«module» ≡ Some bytes → Reads bytes b → (a : Answer) → a ≡ built w b → fs' ≡ after_writes a.writes (Some before) → (after : Files) × (fs' ≡ Some after) × Delivers words before after
-unfolding built
-written words w before bytes b fs' command file read a is left =
-    let d = command_differ words w command in
-    let defined = reads_defined bytes b read in
-    let after1 = finite.insert before w.object (object b) in
-    let after2 = finite.insert after1 w.decisions [] in
-    let after3 = finite.insert after2 w.cert (certificate b) in (
-      after3,
-      left ∙ ap (λ (x : Answer). after_writes x.writes (Some before)) is,
-      record {
-        build = w;
-        bytes = bytes;
-        main = b;
-        object = object b;
-        image = image 16 (main_function b ∷ []);
-        map = [];
-        command = command;
-        file = file;
-        read = read;
-        object_file = get_file after2 w.object w.cert (certificate b) false d.object_cert ∙ get_file after1 w.object w.decisions [] false d.object_decisions ∙ get_file before w.object w.object (object b) true (same_name w.object);
-        does = does_as b defined.few read.parsed.names defined;
-        text = text_size b defined.few;
-        over = refl;
-        decisions_file = get_file after2 w.decisions w.cert (certificate b) false d.decisions_cert ∙ get_file after1 w.decisions w.decisions [] true (same_name w.decisions);
-        least = λ other h. le_refl (size b);
-        certificate_file = get_file after2 w.cert w.cert (certificate b) true (same_name w.cert);
-      },
-    )
+  does_as : DoesAs m (frame_size (length (main_body m).ops)) (object (main_body m)) (i (main_body m) few)
+  does_as = record { file = refl; bounds = bounds (main_body m) few; words = symbol_words (main_body m) few; refines = image_refines_module m proper valid all }
+
+  -- ---- the files after a build of this module
+
+  module _ (words : List (List ℕ)) (w : Words) (before : Files) (bytes : List ℕ) (fs' : Option Files) (command : command_of words ≡ Some w) (file : finite.get before w.«module» ≡ Some bytes) (within : ReadsWithin bytes m) where
+    written : (a : Answer) → a ≡ built w (main_body m) → fs' ≡ after_writes a.writes (Some before) → (after : Files) × (fs' ≡ Some after) × Delivers words before after
+    unfolding built
+    written a is left =
+        let b = main_body m in
+        let d = command_differ words w command in
+        let after1 = finite.insert before w.object (object b) in
+        let after2 = finite.insert after1 w.decisions [] in
+        let after3 = finite.insert after2 w.cert (certificate b) in (
+          after3,
+          left ∙ ap (λ (x : Answer). after_writes x.writes (Some before)) is,
+          record {
+            build = w;
+            bytes = bytes;
+            «module» = m;
+            object = object b;
+            image = image 16 (main_function b ∷ []);
+            map = [];
+            command = command;
+            file = file;
+            read = within;
+            valid = valid;
+            object_file = get_file after2 w.object w.cert (certificate b) false d.object_cert ∙ get_file after1 w.object w.decisions [] false d.object_decisions ∙ get_file before w.object w.object (object b) true (same_name w.object);
+            does = does_as;
+            text = text_size b few;
+            over = refl;
+            decisions_file = get_file after2 w.decisions w.cert (certificate b) false d.decisions_cert ∙ get_file after1 w.decisions w.decisions [] true (same_name w.decisions);
+            least = λ other h. le_refl (size b);
+            certificate_file = get_file after2 w.cert w.cert (certificate b) true (same_name w.cert);
+          },
+        )
 
 module _ (words : List (List ℕ)) (before : Files) (fs' : Option Files) (a : Answer) (zero : a.status ≡ 0) (left : fs' ≡ after_writes a.writes (Some before)) where
   abbrev Done : Type 0
@@ -176,9 +189,21 @@ module _ (words : List (List ℕ)) (before : Files) (fs' : Option Files) (a : An
   other_status : (n : ℕ) (text : List ℕ) → 0 < n → a ≡ refusal n text → ⊥
   other_status n text h e = let s = ap (λ (x : Answer). x.status) e in omega (arith, s, zero)
 
-  on_module : (w : Words) (bytes : List ℕ) → command_of words ≡ Some w → finite.get before w.«module» ≡ Some bytes → IsModuleAnswer w bytes a → Done
-  on_module w bytes command file (left_out none e) = absurd (other_status 4 (codes "module 1:1 left out\n") (omega arith) e)
-  on_module w bytes command file (accepted b read e) = written words w before bytes b fs' command file read a e left
+  module _ (w : Words) (bytes : List ℕ) (command : command_of words ≡ Some w) (file : finite.get before w.«module» ≡ Some bytes) where
+    refused_here : (p : Place) (cause : List ℕ) → a ≡ refused p cause → ⊥
+    refused_here p cause e = let s = ap (λ (x : Answer). x.status) e ∙ refused_status p cause in omega (arith, s, zero)
+
+    on_valid : (m : Module) → ReadsWithin bytes m → IsValid m → IsValidAnswer w m a → Done
+    on_valid m within v (not_built p first e) = absurd (let s = ap (λ (x : Answer). x.status) e ∙ not_yet_status p in omega (arith, s, zero))
+    on_valid m within v (accepted all e) = written m (read_proper bytes m within) v all words w before bytes fs' command file within a e left
+
+    on_read : (m : Module) → ReadsWithin bytes m → IsReadAnswer w m a → Done
+    on_read m within (broken rule p first e) = absurd (refused_here p (rule_word rule) e)
+    on_read m within (valid v answer) = on_valid m within v answer
+
+    on_module : IsModuleAnswer w bytes a → Done
+    on_module (unread fault other h e) = absurd (refused_here (fault_place fault) (fault_word fault) e)
+    on_module (read m within answer) = on_read m within answer
 
   on_length : (w : Words) (bytes : List ℕ) (long : Bool) → command_of words ≡ Some w → finite.get before w.«module» ≡ Some bytes → MatchBool long (a ≡ refusal 9 (codes "too long " ++ w.«module» ++ codes "\n")) (IsModuleAnswer w bytes a) → Done
   on_length w bytes true command file e = absurd (other_status 9 (codes "too long " ++ w.«module» ++ codes "\n") (omega arith) e)

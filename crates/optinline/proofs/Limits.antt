@@ -45,7 +45,8 @@ pub not_two : (n : ℕ) → IsBuildStatus n → n ≡ 2 → ⊥
 not_two n (inl a) e = omega arith
 not_two n (inr (inl a)) e = omega arith
 not_two n (inr (inr (inl a))) e = omega arith
-not_two n (inr (inr (inr a))) e = omega arith
+not_two n (inr (inr (inr (inl a)))) e = omega arith
+not_two n (inr (inr (inr (inr a)))) e = omega arith
 
 -- and not that of a run that ended early
 pub no_end : (n : ℕ) → IsStatus n → (n ≢ 3) × (n ≢ 12)
@@ -53,4 +54,5 @@ no_end n (inl a) = (λ e. omega arith, λ e. omega arith)
 no_end n (inr (inl a)) = (λ e. omega arith, λ e. omega arith)
 no_end n (inr (inr (inl a))) = (λ e. omega arith, λ e. omega arith)
 no_end n (inr (inr (inr (inl a)))) = (λ e. omega arith, λ e. omega arith)
-no_end n (inr (inr (inr (inr a)))) = (λ e. omega arith, λ e. omega arith)
+no_end n (inr (inr (inr (inr (inl a))))) = (λ e. omega arith, λ e. omega arith)
+no_end n (inr (inr (inr (inr (inr a))))) = (λ e. omega arith, λ e. omega arith)

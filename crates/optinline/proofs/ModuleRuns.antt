@@ -1,156 +1,94 @@
--- The module of a `main` runs as its flat body.
-use Rattle.std.proofs.Common.{◌≡◌, ◌≢◌, ℕ, zero, suc, ◌+◌, ◌<◌, Bool, true, false, cond, not, ◌==◌, nat_eq, if◌then◌else◌, List, [], ◌∷◌, length, Some, None, slice_get, refl, sym, ap, ◌∙◌, subst, arith}
-use Rattle.std.specs.List.{filter_map, position_or_len}
+-- A valid module of which all is built runs as its flat body.
+use Rattle.std.proofs.Common.{◌≡◌, ℕ, zero, suc, ◌+◌, ◌≤◌, length, Bool, false, cond, not, nat_eq, if◌then◌else◌, List, [], ◌∷◌, Some, None, slice_get, All, refl, sym, ap, ap₂, ◌∙◌, subst, arith}
+use Rattle.std.specs.List.{position_or_len}
 use Rattle.std.specs.Option.{option_map}
 use Rattle.std.proofs.lemmas.Bool.Decides.{nat_tests}
-use Rattle.oi_base.specs.declared.ids.RegId.{RegId}
-use Rattle.ir_core.specs.declared.flat.FlatInstr.{FlatInstr}
-use Rattle.ir_core.specs.declared.flat.FlatInstr.TheVariants.{Alloca}
-use Rattle.ir_core.specs.declared.flat.FlatBlock.{FlatBlock}
-use Rattle.ir_core.specs.declared.flat.Phi.{Phi}
+use Rattle.std.proofs.lemmas.List.Elements.{All-nil, All-cons}
+use Rattle.ir_core.specs.declared.func.Block.{Block}
 use Rattle.ir_core.specs.declared.func.Func.{Func}
-use Rattle.ir_core.specs.declared.func.Param.{Param}
 use Rattle.ir_core.specs.declared.module.Module.{Module}
-use Rattle.ir_core.specs.Formed.{written_by, targets}
-use Rattle.ir_core.specs.Flat.{flat_run}
-use Rattle.ir_core.specs.Instructions.{block_rows}
-use Rattle.ir_core.specs.Source.{is_labelled, block_at, src}
-use Rattle.ir_core.specs.Plain.{numbers, plain_program}
-use Rattle.ir_core.proofs.Lists.{Has, Each, Apart}
-use Rattle.ir_core.proofs.Sound.{IsAt, coming, IsRegister, Sound}
-use Rattle.ir_core.proofs.SourceRuns.{runs_as_the_source}
-use Rattle.optinline.specs.declared.body.Op.{Op}
+use Rattle.ir_core.specs.Constants.{global_memory}
+use Rattle.ir_core.specs.Flat.{flat_start, flat_run}
+use Rattle.ir_core.specs.Source.{is_main, main_number, src}
+use Rattle.ir_core.specs.Plain.{plain_body, plain_program}
+use Rattle.ir_core.specs.Proper.{IsProper}
+use Rattle.ir_core.specs.Valid.{IsValid, IsValidFunc}
+use Rattle.ir_core.proofs.SoundRules.{runs_as_the_source_where_valid}
 use Rattle.optinline.specs.declared.body.Body.{Body}
-use Rattle.optinline.specs.Meaning.{IsDefined, ir_block, ir_main, module_of, flat_body, flat_program}
-use Rattle.optinline.proofs.PlainBody.{registers_length, same_number, raw, raws, code_is, no_phis, body_is}
+use Rattle.optinline.specs.declared.body.Value.{Value}
+use Rattle.optinline.specs.declared.body.Value.TheVariants.{Reg, Word}
+use Rattle.optinline.specs.declared.body.Op.{Op}
+use Rattle.optinline.specs.Bodies.{IsKnown, OpIsKnown, IsKnownBody, AreDefined, IsDefined}
+use Rattle.optinline.specs.Meaning.{flat_body, flat_program}
+use Rattle.optinline.specs.MainBody.{body_of, first_block, first_func, main_body, AreBuiltBlocks, AreBuiltFuncs}
+use Rattle.optinline.specs.Unbuilt.{unbuilt}
+use Rattle.optinline.proofs.Built.{each_of_all}
+use Rattle.optinline.proofs.OneMain.{IsOneMain, one_main}
+use Rattle.optinline.proofs.PlainBody as plain
 use Rattle.optinline.proofs.SameRuns.{runs_same}
+use Rattle.ir_core.proofs.Lists.{Each}
 
-module _ (names : List (List ℕ)) (b : Body) where
-  abbrev m : Module
-  m = module_of names b
+-- ---- the numbers of all registers are small
 
-  abbrev g : Func
-  g = ir_main names b
+known_up : (count most : ℕ) (v : Value) → count ≤ most → IsKnown count v → IsKnown most v
+known_up count most (Reg r) h known = omega (arith, h, known)
+known_up count most (Word w) h known = known
 
-  -- what stands in the module: its one function and its one block
-  record IsOnly (h : Func) (k : FlatBlock) (x : ℕ) : Type 0 where
-    func : h ≡ g
-    block : k ≡ block_rows m (ir_block b)
-    label : (length b.ops == x) ≡ true
+all_known : (k : ℕ) (ops : List Op) → k + length ops ≤ 400 → AreDefined k ops → All (OpIsKnown 400) ops
+all_known k [] h defined = All-nil (OpIsKnown 400)
+all_known k (o ∷ ops) h defined =
+    All-cons (OpIsKnown 400) o ops (known_up k 400 o.left (omega (arith, h)) defined.0.0, known_up k 400 o.right (omega (arith, h)) defined.0.1) (all_known (k + 1) ops (omega (arith, h)) defined.1)
 
-  func_is : (f : ℕ) (h : Func) → slice_get (g ∷ []) f ≡ Some h → (f ≡ 0) × (h ≡ g)
-  func_is zero h e = (refl, same e)
+known_body : (b : Body) → IsDefined b → IsKnownBody b
+known_body b defined =
+    let few = defined.few in
+    record { ops = all_known 0 b.ops (omega (arith, few)) defined.ops; value = known_up (length b.ops) 400 b.value few defined.value; few = few }
+
+-- ---- runs
+
+module _ (m : Module) (f : Func) (b : Block) (shape : IsOneMain m f b) (valid : IsValid m) where
+  valid_func : IsValidFunc m f
+  valid_func = (subst (Each (IsValidFunc m)) shape.funcs (each_of_all (IsValidFunc m) m.funcs valid.each_func)).0
+
+  main_is : main_body m ≡ body_of b
+  main_is = ap first_func shape.funcs ∙ ap first_block shape.blocks
+
+  defined : IsDefined (body_of b)
+  defined = plain.is_defined m f b shape valid_func
+
+  main_first : main_number m ≡ 0
+  main_first = ap (position_or_len (is_main m)) shape.funcs ∙ ap (λ (t : Bool). cond (not t) (1 + 0) 0) shape.named
+
+  bodies_same : (k : ℕ) → (plain_program m).body k ≡ (flat_program (body_of b)).body k
+  bodies_same zero = ap (λ (fs : List Func). option_map (plain_body m) (slice_get fs 0)) shape.funcs ∙ ap Some (plain.body_is m f b shape valid_func)
+  bodies_same (suc k) =
+      let e : nat_eq (suc k) 0 ≡ false = grind (arith, nat_tests) in
+      ap (λ (fs : List Func). option_map (plain_body m) (slice_get fs (suc k))) shape.funcs ∙ sym (ap (λ (c : Bool). if c then Some (flat_body (body_of b)) else None) e)
+
+  start_same : (input : List ℕ) → flat_start (plain_program m) input ≡ flat_start (flat_program (body_of b)) input
+  start_same input =
+      ap₂ (λ (gs : _) (k : ℕ). flat_start (record { globals = gs; body = (plain_program m).body; main = k }) input) no_memory main_first
     where
-      same : Some g ≡ Some h → h ≡ g
-      same e = cc
-  func_is (suc f) h e = absurd (no_func e)
-    where
-      no_func : None ≡ Some h → ⊥
-      no_func e = cc
+      no_memory : global_memory m ≡ []
+      no_memory = rw shape.globals refl
 
-  block_is : (x : ℕ) (k : FlatBlock) (c : Bool) → (length b.ops == x) ≡ c → option_map (block_rows m) (if c then Some (ir_block b) else None) ≡ Some k → (k ≡ block_rows m (ir_block b)) × (c ≡ true)
-  block_is x k true e h = (same h, refl)
-    where
-      same : Some (block_rows m (ir_block b)) ≡ Some k → k ≡ block_rows m (ir_block b)
-      same h = cc
-  block_is x k false e h = absurd (no_block h)
-    where
-      no_block : None ≡ Some k → ⊥
-      no_block h = cc
+  runs_as_body : (input : List ℕ) (n : ℕ) → flat_run (flat_program (body_of b)) input n ≡ src m input n
+  runs_as_body input n = sym (runs_same (plain_program m) (flat_program (body_of b)) bodies_same input (start_same input) n) ∙ runs_as_the_source_where_valid m valid input n
 
-  only : (f x : ℕ) (h : Func) (k : FlatBlock) → IsAt m f x h k → IsOnly h k x
-  only f x h k at =
-      let i = func_is f h at.func in
-      let e : block_at m 0 x ≡ Some k = ap (λ j. block_at m j x) (sym i.0) ∙ at.block in
-      let l = block_is x k (length b.ops == x) refl e in
-      record { func = i.1; block = l.0; label = l.1 }
+module _ (m : Module) (proper : IsProper m) (valid : IsValid m) (none : unbuilt m ≡ []) where
+  shape : (f : Func) × (b : Block) × IsOneMain m f b
+  shape = one_main m proper valid none
 
-  label_known : (x : ℕ) → (length b.ops == x) ≡ true → (numbers g).block x < length g.blocks
-  label_known x e = let z : position_or_len (is_labelled x) (ir_block b ∷ []) ≡ 0 = ap (λ (c : Bool). cond (not c) (1 + 0) 0) e in omega arith
+  pub main_defined : IsDefined (main_body m)
+  main_defined = subst IsDefined (sym (main_is m shape.0 shape.1 shape.2 valid)) (defined m shape.0 shape.1 shape.2 valid)
 
-  -- ---- what its instructions write
+  pub main_built : AreBuiltFuncs m.funcs
+  main_built =
+      let at = shape.2 in
+      subst AreBuiltFuncs (sym at.funcs) (subst AreBuiltBlocks (sym at.blocks) (plain.is_built m shape.0 shape.1 at (valid_func m shape.0 shape.1 at valid)))
 
-  nth : (number : ℕ) (ops : List Op) (p : ℕ) (i : FlatInstr) → slice_get (raws names b number ops) p ≡ Some i → (p < length ops) × ((o : Op) × (i ≡ raw names b (number + p) o))
-  nth number [] p i e = absurd (no_instr e)
-    where
-      no_instr : None ≡ Some i → ⊥
-      no_instr e = cc
-  nth number (o ∷ ops) zero i e = let z : number ≡ number + 0 = omega arith in (omega arith, (o, same e ∙ ap (λ j. raw names b j o) z))
-    where
-      same : Some (raw names b number o) ≡ Some i → i ≡ raw names b number o
-      same e = cc
-  nth number (o ∷ ops) (suc p) i e =
-      let r = nth (number + 1) ops p i e in
-      let z : number + 1 + p ≡ number + suc p = omega arith in
-      let short = r.0 in
-      (omega arith, (r.1.0, r.1.1 ∙ ap (λ j. raw names b j r.1.0) z))
+  pub main_known : IsKnownBody (main_body m)
+  main_known = known_body (main_body m) main_defined
 
-  writes : (number d p : ℕ) (o : Op) (i : FlatInstr) → i ≡ raw names b p o → written_by i ≡ Some d → d ≡ p
-  writes number d p o i e w = same (sym (ap written_by e) ∙ w)
-    where
-      same : Some p ≡ Some d → d ≡ p
-      same h = cc
-
-  -- the numbers from one on, one for each operation
-  abbrev from : ℕ → List Op → List ℕ
-  from number [] = []
-  from number (o ∷ ops) = number ∷ from (number + 1) ops
-
-  written_are : (number : ℕ) (ops : List Op) → filter_map written_by (raws names b number ops) ≡ from number ops
-  written_are number [] = refl
-  written_are number (o ∷ ops) = ap (λ l. number ∷ l) (written_are (number + 1) ops)
-
-  above : (low number : ℕ) (ops : List Op) → low < number → Each (λ y. low ≢ y) (from number ops)
-  above low number [] h = tt
-  above low number (o ∷ ops) h = (λ e. absurd (omega arith), above low (number + 1) ops (omega arith))
-
-  apart : (number : ℕ) (ops : List Op) → Apart (from number ops)
-  apart number [] = tt
-  apart number (o ∷ ops) = (above number (number + 1) ops (omega arith), apart (number + 1) ops)
-
-  no_parameters : (number : ℕ) (ops : List Op) → Each (λ (d : ℕ). Each (λ (q : Param). q.name.0 ≢ d) []) (from number ops)
-  no_parameters number [] = tt
-  no_parameters number (o ∷ ops) = (tt, no_parameters (number + 1) ops)
-
-  coming_is : coming (block_rows m (ir_block b)) 0 ≡ from 0 b.ops
-  coming_is = ap (filter_map written_by) (code_is names b 0 b.ops) ∙ written_are 0 b.ops
-
-  register_at : (d : ℕ) → d < length b.ops → IsRegister g d
-  register_at d h = let e = same_number names b d h in let l = registers_length names b in omega arith
-
-  result_is : (p d : ℕ) (i : FlatInstr) → slice_get (block_rows m (ir_block b)).code p ≡ Some i → written_by i ≡ Some d → IsRegister g d
-  result_is p d i e w =
-      let r = nth 0 b.ops p i (ap (λ l. slice_get l p) (sym (code_is names b 0 b.ops)) ∙ e) in
-      let z : d ≡ 0 + p = writes 0 d (0 + p) r.1.0 i r.1.1 w in
-      let short = r.0 in
-      register_at d (omega arith)
-
-  no_alloca : (p size align : ℕ) (d : RegId) → slice_get (block_rows m (ir_block b)).code p ≡ Some (Alloca d size align) → ⊥
-  no_alloca p size align d e =
-      let r = nth 0 b.ops p (Alloca d size align) (ap (λ l. slice_get l p) (sym (code_is names b 0 b.ops)) ∙ e) in
-      other (0 + p) r.1.0 r.1.1
-    where
-      other : (n : ℕ) (o : Op) → Alloca d size align ≡ raw names b n o → ⊥
-      other n o h = cc
-
-  sound : Sound m
-  sound = record {
-    labels = λ f x h k at. let o = only f x h k at in subst (λ y. (numbers y).block x < length y.blocks) (sym o.func) (label_known x o.label);
-    results = λ f x h k at p d i e w. let o = only f x h k at in subst (λ y. IsRegister y d) (sym o.func) (result_is p d i (ap (λ (y : FlatBlock). slice_get y.code p) (sym o.block) ∙ e) w);
-    phis = λ f x h k at. let o = only f x h k at in subst (λ (y : FlatBlock). Each (λ (q : Phi). IsRegister h q.reg.0) y.phis) (sym o.block) (subst (Each (λ (q : Phi). IsRegister h q.reg.0)) (sym (no_phis names b 0 b.ops)) tt);
-    once = λ f x h k at. let o = only f x h k at in subst (λ y. Apart (coming y 0)) (sym o.block) (subst Apart (sym coming_is) (apart 0 b.ops));
-    params = λ f x h k at. let o = only f x h k at in subst (λ y. Each (λ (d : ℕ). Each (λ (q : Param). q.name.0 ≢ d) y.params) (coming k 0)) (sym o.func) (subst (λ y. Each (λ (d : ℕ). Each (λ (q : Param). q.name.0 ≢ d) []) (coming y 0)) (sym o.block) (subst (Each (λ (d : ℕ). Each (λ (q : Param). q.name.0 ≢ d) [])) (sym coming_is) (no_parameters 0 b.ops)));
-    allocas = λ f x h k at p size align d e. let o = only f x h k at in absurd (no_alloca p size align d (ap (λ (y : FlatBlock). slice_get y.code p) (sym o.block) ∙ e));
-    no_way_back = λ f x h k at t has. let o = only f x h k at in absurd (subst (λ (y : FlatBlock). Has (targets y.end) t) o.block has);
-  }
-
-  -- ---- the two programs
-
-  bodies_same : IsDefined b → (f : ℕ) → (plain_program m).body f ≡ (flat_program b).body f
-  bodies_same defined zero = ap Some (body_is names b defined)
-  bodies_same defined (suc f) =
-      let e : nat_eq (suc f) 0 ≡ false = grind (arith, nat_tests) in
-      sym (ap (λ (c : Bool). if c then Some (flat_body b) else None) e)
-
-  pub runs_as_flat : IsDefined b → (input : List ℕ) (n : ℕ) → flat_run (flat_program b) input n ≡ src m input n
-  runs_as_flat defined input n = sym (runs_same (plain_program m) (flat_program b) (bodies_same defined) input refl n) ∙ runs_as_the_source m sound input n
+  pub runs_as_flat : (input : List ℕ) (n : ℕ) → flat_run (flat_program (main_body m)) input n ≡ src m input n
+  runs_as_flat input n = ap (λ (x : Body). flat_run (flat_program x) input n) (main_is m shape.0 shape.1 shape.2 valid) ∙ runs_as_body m shape.0 shape.1 shape.2 valid input n

@@ -21,8 +21,8 @@ use Rattle.optinline.specs.declared.body.Sum.{Sum}
 use Rattle.optinline.specs.declared.body.Sum.TheVariants.{Add, Sub}
 use Rattle.optinline.specs.declared.body.Op.{Op}
 use Rattle.optinline.specs.declared.body.Body.{Body}
-use Rattle.optinline.specs.Parsing.{IsKnown, OpIsKnown}
-use Rattle.optinline.specs.Meaning.{operand_of, bin_op, instr_of, instrs_of, flat_program, AreDefined, IsDefined}
+use Rattle.optinline.specs.Bodies.{IsKnown, OpIsKnown, AreDefined, IsDefined}
+use Rattle.optinline.specs.Meaning.{operand_of, bin_op, instr_of, instrs_of, flat_program}
 use Rattle.optinline.specs.Layout.{main_frame}
 
 -- ---- the program is one of sums and differences

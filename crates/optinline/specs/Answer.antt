@@ -1,17 +1,30 @@
 -- What a run answers, from its words and the files of its desk.
-use Rattle.std.specs.Prelude.{◌≡◌, ℕ, ◌<◌, ◌≤◌, ◌⊎◌, List, [], ◌∷◌, ◌++◌, length, take, decimal, nat_lt, MatchBool, Option, Some, None, Result, Ok, Err, codes, is_some}
+use Rattle.std.specs.Prelude.{◌≡◌, ◌≢◌, ℕ, ◌<◌, ◌≤◌, ◌⊎◌, List, [], ◌∷◌, ◌++◌, length, take, decimal, nat_lt, MatchBool, Option, Some, None, Result, Ok, Err, codes, is_some, Contains}
 use Rattle.std.specs.FinMap as finite
 use Rattle.std.specs.String.{string_bytes}
 use Rattle.oi_world.specs.Desk.{Files}
 use Rattle.oi_world.specs.declared.desk.DeskFault.{DeskFault}
 use Rattle.oi_world.specs.declared.desk.DeskFault.TheVariants.{Failed, Absent, NoMemory}
+use Rattle.oi_base.specs.declared.ids.Place.{Place}
+use Rattle.ir_lexer.specs.declared.fault.LexFault.{LexFault}
+use Rattle.ir_lexer.specs.declared.fault.LexFault.TheVariants as lexical
+use Rattle.ir_core.specs.declared.module.Module.{Module}
+use Rattle.ir_core.specs.Valid.{IsValid}
+use Rattle.ir_core.specs.FirstBroken.{IsFirstBroken, IsFirstPlace}
+use Rattle.ir_grammar.specs.declared.which.Which.{Which}
+use Rattle.ir_grammar.specs.declared.which.Which.TheVariants as limits
+use Rattle.ir_grammar.specs.Pieces.{lexical_place}
+use Rattle.ir_phrases.specs.declared.fault.ReadFault.{ReadFault}
+use Rattle.ir_phrases.specs.declared.fault.ReadFault.TheVariants as faults
+use Rattle.ir_reader.specs.Refusals.{ReadsWithin, IsRefusal}
 use Rattle.optinline.specs.declared.body.Body.{Body}
 use Rattle.optinline.specs.declared.reply.Reply.{Reply}
 use Rattle.optinline.specs.Lowering.{size, body_size}
 use Rattle.optinline.specs.Executable.{object}
-use Rattle.optinline.specs.Reading.{Reads}
 use Rattle.optinline.specs.Reply.{writes_of, after_writes, with_said, CutShort}
 use Rattle.optinline.specs.Words.{Words, command_of}
+use Rattle.optinline.specs.MainBody.{main_body}
+use Rattle.optinline.specs.Unbuilt.{unbuilt}
 
 -- ---- answers
 
@@ -55,12 +68,67 @@ built words b = record {
   said = summary (size b);
 }
 
+-- ---- refusals of a module
+
+-- a text with LINE:COLUMN behind it
+abbrev pub with_place : List ℕ → Place → List ℕ
+with_place text p = text ++ decimal p.line ++ codes ":" ++ decimal p.column
+
+abbrev pub limit_word : Which → List ℕ
+limit_word limits.Functions = codes "functions"
+limit_word limits.Sites = codes "sites"
+limit_word limits.Params = codes "params"
+limit_word limits.Nesting = codes "nesting"
+limit_word limits.Length = codes "length"
+
+abbrev pub lexical_word : LexFault → List ℕ
+lexical_word (lexical.BadByte p b) = codes "byte"
+lexical_word (lexical.OpenString p) = codes "string"
+lexical_word (lexical.LongNumber p) = codes "number"
+lexical_word lexical.NoMemory = codes "memory"
+
+-- why a text is not read, and the place
+abbrev pub fault_word : ReadFault → List ℕ
+fault_word (faults.Lexical e) = lexical_word e
+fault_word (faults.Syntax p) = codes "syntax"
+fault_word (faults.LeftOut p) = codes "left out"
+fault_word (faults.Limit p w) = codes "limit " ++ limit_word w
+fault_word faults.NoMemory = codes "memory"
+
+abbrev pub fault_place : ReadFault → Place
+fault_place (faults.Lexical e) = lexical_place e
+fault_place (faults.Syntax p) = p
+fault_place (faults.LeftOut p) = p
+fault_place (faults.Limit p w) = p
+fault_place faults.NoMemory = record { line = 0; column = 0 }
+
+-- a module with a fault at a place
+unfoldable pub refused : Place → List ℕ → Answer
+refused p cause = refusal 4 (with_place (codes "module ") p ++ codes " " ++ cause ++ codes "\n")
+
+abbrev pub rule_word : ℕ → List ℕ
+rule_word number = codes "rule " ++ decimal number
+
+-- a module of which something isn't built yet
+unfoldable pub not_yet : Place → Answer
+not_yet p = refusal 13 (with_place (codes "not built ") p ++ codes "\n")
+
 -- ---- which answer a run has
 
--- the answer where the module has these bytes
+-- the answer to a build of a valid module
+pub data IsValidAnswer (words : Words) (m : Module) (a : Answer) : Type 0 where
+  not_built : (p : Place) → IsFirstPlace (λ q. Contains (unbuilt m) q) p → a ≡ not_yet p → IsValidAnswer words m a
+  accepted : unbuilt m ≡ [] → a ≡ built words (main_body m) → IsValidAnswer words m a
+
+-- to that of a module that was read
+pub data IsReadAnswer (words : Words) (m : Module) (a : Answer) : Type 0 where
+  broken : (rule : ℕ) (p : Place) → IsFirstBroken m rule p → a ≡ refused p (rule_word rule) → IsReadAnswer words m a
+  valid : IsValid m → IsValidAnswer words m a → IsReadAnswer words m a
+
+-- and where the file of the module has these bytes
 pub data IsModuleAnswer (words : Words) (bytes : List ℕ) (a : Answer) : Type 0 where
-  left_out : ((b : Body) → Reads bytes b → ⊥) → a ≡ refusal 4 (codes "module 1:1 left out\n") → IsModuleAnswer words bytes a
-  accepted : (b : Body) → Reads bytes b → a ≡ built words b → IsModuleAnswer words bytes a
+  unread : (e : ReadFault) → e ≢ faults.NoMemory → IsRefusal bytes e → a ≡ refused (fault_place e) (fault_word e) → IsModuleAnswer words bytes a
+  read : (m : Module) → ReadsWithin bytes m → IsReadAnswer words m a → IsModuleAnswer words bytes a
 
 -- the answer where the file of the module has these bytes, or isn't there
 abbrev pub IsFileAnswer : Words → Option (List ℕ) → Answer → Type 0
@@ -92,24 +160,32 @@ pub record IsTooLong (words : List (List ℕ)) (files : Files) : Type 0 where
   pub file : finite.get files build.«module» ≡ Some bytes
   pub long : module_limit < length bytes
 
--- the words are a build of a module within the limit that is not in the accepted text
-pub record IsLeftOut (words : List (List ℕ)) (files : Files) : Type 0 where
+-- the words are a build of a file within the limit that is the text of no valid module
+pub record IsRefused (words : List (List ℕ)) (files : Files) : Type 0 where
   pub build : Words
   pub bytes : List ℕ
   pub command : command_of words ≡ Some build
   pub file : finite.get files build.«module» ≡ Some bytes
   pub short : length bytes ≤ module_limit
-  pub none : (b : Body) → Reads bytes b → ⊥
+  pub none : (m : Module) → ReadsWithin bytes m → IsValid m → ⊥
 
--- the words are a build of a module within the limit that is in the accepted text
-pub record IsAccepted (words : List (List ℕ)) (files : Files) : Type 0 where
+-- the words are a build of a file within the limit that is the text of this valid module
+pub record IsBuildOf (words : List (List ℕ)) (files : Files) (m : Module) : Type 0 where
   pub build : Words
   pub bytes : List ℕ
-  pub main : Body
   pub command : command_of words ≡ Some build
   pub file : finite.get files build.«module» ≡ Some bytes
   pub short : length bytes ≤ module_limit
-  pub read : Reads bytes main
+  pub read : ReadsWithin bytes m
+  pub valid : IsValid m
+
+-- of a module of which something isn't built yet
+abbrev pub IsNotBuilt : List (List ℕ) → Files → Type 0
+IsNotBuilt words files = (m : Module) × IsBuildOf words files m × (unbuilt m ≢ [])
+
+-- and of one of which all is built
+abbrev pub IsAccepted : List (List ℕ) → Files → Type 0
+IsAccepted words files = (m : Module) × IsBuildOf words files m × (unbuilt m ≡ [])
 
 abbrev pub Iff : Type 0 → Type 0 → Type 0
 Iff p q = (p → q) × (q → p)
@@ -119,12 +195,13 @@ pub record HasCauses (words : List (List ℕ)) (files : Files) (status : ℕ) : 
   pub no_command : Iff (status ≡ 2) (command_of words ≡ None)
   pub absent : Iff (status ≡ 18) (IsAbsent words files)
   pub too_long : Iff (status ≡ 9) (IsTooLong words files)
-  pub left_out : Iff (status ≡ 4) (IsLeftOut words files)
+  pub refused : Iff (status ≡ 4) (IsRefused words files)
+  pub not_built : Iff (status ≡ 13) (IsNotBuilt words files)
   pub accepted : Iff (status ≡ 0) (IsAccepted words files)
 
 -- the statuses of an answer to a build, and of an answer
 abbrev pub IsBuildStatus : ℕ → Type 0
-IsBuildStatus n = (n ≡ 0) ⊎ ((n ≡ 4) ⊎ ((n ≡ 9) ⊎ (n ≡ 18)))
+IsBuildStatus n = (n ≡ 0) ⊎ ((n ≡ 4) ⊎ ((n ≡ 9) ⊎ ((n ≡ 13) ⊎ (n ≡ 18))))
 
 abbrev pub IsStatus : ℕ → Type 0
 IsStatus n = (n ≡ 2) ⊎ IsBuildStatus n

@@ -12,31 +12,31 @@ use Rattle.elf_object.specs.File.{elf}
 use Rattle.decisions.specs.declared.maps.Label.{Label}
 use Rattle.decisions.specs.Maps.{sites_of}
 use Rattle.decisions.specs.Text.{text_of}
-use Rattle.optinline.specs.declared.body.Body.{Body}
-use Rattle.optinline.specs.Reading.{Reads}
+use Rattle.ir_core.specs.Valid.{IsValid}
+use Rattle.ir_reader.specs.Refusals.{ReadsWithin}
 use Rattle.optinline.specs.Words.{Words, command_of}
 use Rattle.optinline.specs.Lowering.{frame_size, size}
-use Rattle.optinline.specs.Meaning.{module_of}
+use Rattle.optinline.specs.MainBody.{main_body}
 use Rattle.optinline.specs.Layout.{segments_of}
 use Rattle.optinline.specs.Answer.{certificate}
 
 -- ---- maps
 
--- the candidate sites of a module: the accepted text has no calls, so there are none
-abbrev pub candidates : Body → List SiteId
-candidates main = []
+-- the candidate sites of a module: what is built has no calls, so there are none
+abbrev pub candidates : Module → List SiteId
+candidates m = []
 
 -- a label for each candidate site
-abbrev pub IsMapOver : Body → List (SiteId × Label) → Type 0
-IsMapOver main map = sites_of map ≡ candidates main
+abbrev pub IsMapOver : Module → List (SiteId × Label) → Type 0
+IsMapOver m map = sites_of map ≡ candidates m
 
 -- the bytes of the text under a map: without candidates it is that of the one lowering
-abbrev pub size_under : Body → List (SiteId × Label) → ℕ
-size_under main map = size main
+abbrev pub size_under : Module → List (SiteId × Label) → ℕ
+size_under m map = size (main_body m)
 
 -- no map gives less
-abbrev pub IsLeast : Body → List (SiteId × Label) → Type 0
-IsLeast main map = (other : List (SiteId × Label)) → IsMapOver main other → size_under main map ≤ size_under main other
+abbrev pub IsLeast : Module → List (SiteId × Label) → Type 0
+IsLeast m map = (other : List (SiteId × Label)) → IsMapOver m other → size_under m map ≤ size_under m other
 
 -- ---- objects
 
@@ -48,22 +48,23 @@ pub record DoesAs (m : Module) (largest : ℕ) (object : List ℕ) (image : Part
   pub words : All HasWords image.symbols
   pub refines : (input : List ℕ) → Refines largest (src m input) (run (segments_of image) input)
 
--- The words are a build of a module in the accepted text. OBJECT does what the module says, and its text has the size of
+-- The words are a build of the text of a valid module. OBJECT does what the module says, and its text has the size of
 -- the map that DECISIONS holds; no map gives less; and CERT is the certificate that states it.
 pub record Delivers (words : List (List ℕ)) (before after : Files) : Type 0 where
   pub build : Words
   pub bytes : List ℕ
-  pub main : Body
+  pub «module» : Module
   pub object : List ℕ
   pub image : Parts
   pub map : List (SiteId × Label)
   pub command : command_of words ≡ Some build
   pub file : finite.get before build.«module» ≡ Some bytes
-  pub read : Reads bytes main
+  pub read : ReadsWithin bytes «module»
+  pub valid : IsValid «module»
   pub object_file : finite.get after build.object ≡ Some object
-  pub does : DoesAs (module_of read.parsed.names main) (frame_size (length main.ops)) object image
-  pub text : length image.text ≡ size_under main map
-  pub over : IsMapOver main map
+  pub does : DoesAs «module» (frame_size (length (main_body «module»).ops)) object image
+  pub text : length image.text ≡ size_under «module» map
+  pub over : IsMapOver «module» map
   pub decisions_file : finite.get after build.decisions ≡ Some (text_of map)
-  pub least : IsLeast main map
-  pub certificate_file : finite.get after build.cert ≡ Some (certificate main)
+  pub least : IsLeast «module» map
+  pub certificate_file : finite.get after build.cert ≡ Some (certificate (main_body «module»))

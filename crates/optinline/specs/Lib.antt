@@ -1,10 +1,11 @@
 pub mod Answer
+pub mod Bodies
 pub mod Delivered
 pub mod Executable
 pub mod Layout
 pub mod Lowering
+pub mod MainBody
 pub mod Meaning
-pub mod Parsing
-pub mod Reading
 pub mod Reply
+pub mod Unbuilt
 pub mod Words

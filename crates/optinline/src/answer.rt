@@ -1,17 +1,24 @@
 ghost use Rattle.std.specs.Prelude.{ℕ, List, ◌≡◌, ◌≢◌, ◌≤◌, ◌++◌, [], IfOk, length};
 ghost use Rattle.std.specs.Option.{option_map};
 ghost use Rattle.std.specs.String.{string_bytes};
-ghost use Rattle.optinline.specs.Words.{view};
-ghost use Rattle.optinline.specs.Parsing.{IsKnownBody};
 ghost use Rattle.oi_world.specs.Desk.{Files};
-ghost use Rattle.optinline.specs.Answer.{Answer, IsAnswer, answer_of, refusal, summary, heading, leaf, built, module_limit, IsModuleAnswer, IsFileAnswer, IsBuildStatus};
+ghost use Rattle.ir_core.specs.Proper.{IsProper};
+ghost use Rattle.ir_phrases.specs.declared.fault.ReadFault.TheVariants as faults;
+ghost use Rattle.optinline.specs.Words.{view};
+ghost use Rattle.optinline.specs.Bodies.{IsKnownBody};
+ghost use Rattle.optinline.specs.Answer.{Answer, IsAnswer, answer_of, refusal, refused, not_yet, rule_word, fault_place, fault_word, summary, heading, leaf, built, module_limit, IsValidAnswer, IsReadAnswer, IsModuleAnswer, IsFileAnswer, IsBuildStatus};
 
 use crate::body::Body;
 use crate::executable::build_executable;
-use crate::reading::{ReadFault, read};
+use crate::faults::{fault_place, fault_word};
+use crate::one_block::main_body;
 use crate::reply::{FileWrite, Reply};
+use crate::unbuilt::first_unbuilt;
 use crate::words::Build;
-use oi_base::NoMemory;
+use ir_core::{Module, Verified};
+use ir_reader::{ReadFault, read_module};
+use ir_verifier::{RuleFault, verify};
+use oi_base::{NoMemory, Place};
 use std::alloc::{AllocError, Global};
 
 /// How many bytes a module has at most.
@@ -93,6 +100,78 @@ fn built(alloc: Global, build: &Build<'_>, body: &Body) -> Result<Reply, NoMemor
     })
 }
 
+/// The answer where a module has a fault at a place.
+#[tactic(auto, unfolding(crate::specs::Answer::refused))]
+fn refused(alloc: Global, place: Place, cause: &str) -> Result<Reply, AllocError>
+    ensures answer { IfOk result (λ r. answer_of r ≡ refused place cause.now) }
+    ensures status { IfOk result (λ r. r.status ≡ 4) }
+    ensures quiet { IfOk result (λ r. r.writes.items ≡ []) }
+{
+    let (line, column) = (place.line, place.column);
+    let said = format!(in alloc; "module {line}:{column} {cause}\n")?;
+    Ok(refuse(alloc, 4, said))
+}
+
+/// The answer where a rule is broken at a place.
+fn rule_broken(alloc: Global, rule: u8, place: Place) -> Result<Reply, AllocError>
+    ensures answer { IfOk result (λ r. answer_of r ≡ refused place (rule_word rule)) }
+    ensures status { IfOk result (λ r. r.status ≡ 4) }
+    ensures quiet { IfOk result (λ r. r.writes.items ≡ []) }
+{
+    let cause = format!(in alloc; "rule {rule}")?;
+    refused(alloc, place, cause.as_str())
+}
+
+/// The answer where something at a place isn't built yet.
+fn not_yet(alloc: Global, place: Place) -> Result<Reply, AllocError>
+    ensures answer { IfOk result (λ r. answer_of r ≡ not_yet place) }
+    ensures status { IfOk result (λ r. r.status ≡ 13) }
+    ensures quiet { IfOk result (λ r. r.writes.items ≡ []) }
+{
+    let (line, column) = (place.line, place.column);
+    let said = format!(in alloc; "not built {line}:{column}\n")?;
+    Ok(refuse(alloc, 13, said))
+}
+
+/// The answer to a build of a valid module.
+fn valid_reply(alloc: Global, build: &Build<'_>, v: &Verified) -> Result<Reply, NoMemory>
+    ensures answer { IfOk result (λ r. IsValidAnswer (view build.now) v.now (answer_of r)) }
+    ensures status { IfOk result (λ r. IsBuildStatus r.status) }
+    ensures quiet { IfOk result (λ r. r.status ≢ 0 → r.writes.items ≡ []) }
+{
+    match first_unbuilt(v.module()) {
+        Some(place) => Ok(not_yet(alloc, place)?),
+        None => built(alloc, build, &main_body(alloc, v)?),
+    }
+}
+
+/// The answer to a build of a module that was read.
+fn read_reply(alloc: Global, build: &Build<'_>, m: Module) -> Result<Reply, NoMemory>
+    requires { IsProper m }
+    ensures answer { IfOk result (λ r. IsReadAnswer (view build.now) m (answer_of r)) }
+    ensures status { IfOk result (λ r. IsBuildStatus r.status) }
+    ensures quiet { IfOk result (λ r. r.status ≢ 0 → r.writes.items ≡ []) }
+{
+    match verify(alloc, m) {
+        Ok(v) => valid_reply(alloc, build, &v),
+        Err(RuleFault::Rule(rule, place)) => Ok(rule_broken(alloc, rule, place)?),
+        Err(RuleFault::Unassigned(unassigned)) => Ok(rule_broken(alloc, 18, unassigned.place)?),
+        Err(RuleFault::NoMemory) => Err(NoMemory),
+    }
+}
+
+/// The answer to a module that is not read.
+fn unread_reply(alloc: Global, fault: ReadFault) -> Result<Reply, NoMemory>
+    ensures answer { IfOk result (λ r. (fault ≢ faults.NoMemory) × (answer_of r ≡ refused (fault_place fault) (fault_word fault))) }
+    ensures status { IfOk result (λ r. IsBuildStatus r.status) }
+    ensures quiet { IfOk result (λ r. r.status ≢ 0 → r.writes.items ≡ []) }
+{
+    match fault {
+        ReadFault::NoMemory => Err(NoMemory),
+        _ => Ok(refused(alloc, fault_place(fault), fault_word(fault))?),
+    }
+}
+
 /// The answer to a build of a module with these bytes, within the limit.
 fn module_reply(alloc: Global, build: &Build<'_>, bytes: &[u8]) -> Result<Reply, NoMemory>
     requires { length bytes.now ≤ module_limit }
@@ -100,17 +179,9 @@ fn module_reply(alloc: Global, build: &Build<'_>, bytes: &[u8]) -> Result<Reply,
     ensures status { IfOk result (λ r. IsBuildStatus r.status) }
     ensures quiet { IfOk result (λ r. r.status ≢ 0 → r.writes.items ≡ []) }
 {
-    match read(alloc, bytes) {
-        Ok(body) => {
-            let reply = built(alloc, build, &body)?;
-            Ok(reply)
-        }
-        Err(ReadFault::LeftOut) => Ok(refuse(
-            alloc,
-            4,
-            String::from_str(alloc, "module 1:1 left out\n")?,
-        )),
-        Err(ReadFault::NoMemory) => Err(NoMemory),
+    match read_module(alloc, bytes) {
+        Ok(m) => read_reply(alloc, build, m),
+        Err(fault) => unread_reply(alloc, fault),
     }
 }
 
@@ -134,8 +205,8 @@ pub fn build_reply(
     module_reply(alloc, build, bytes.as_slice())
 }
 
-/// The answer is a function of the words and the files: there is one, and one alone.
+/// The answer is a function of the words and the files: these are never without one, and have one at most.
 pub fn an_answer_is_a_function()
-    ensures some { (words : List (List ℕ)) (files : Files) → (a : Answer) × IsAnswer words files a }
+    ensures some { (words : List (List ℕ)) (files : Files) → ((a : Answer) → IsAnswer words files a → ⊥) → ⊥ }
     ensures one { (words : List (List ℕ)) (files : Files) (a b : Answer) → IsAnswer words files a → IsAnswer words files b → a ≡ b }
 {}

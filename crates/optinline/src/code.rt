@@ -1,7 +1,7 @@
 ghost use Rattle.std.specs.Prelude.{◌≡◌, ◌<◌, ◌≤◌, ◌+◌, ◌*◌, ◌++◌, ◌∷◌, [], OnOk, IfOk, All, length, pos, ◌≤ℤ◌};
 ghost use Rattle.rv_isa.specs.Words.{InRange, IsSigned};
 ghost use Rattle.oi_base.specs.Words.{signed_of};
-ghost use Rattle.optinline.specs.Parsing.{IsKnown, OpIsKnown, IsKnownBody};
+ghost use Rattle.optinline.specs.Bodies.{IsKnown, OpIsKnown, IsKnownBody};
 ghost use Rattle.rv_select.specs.Parts.{hi, lo, load_word, far_base, load_slot, store_slot, large_frame, frame_down, frame_up, open_frame, epilogue, stub};
 ghost use Rattle.optinline.specs.Lowering.{slot, frame_size, load, machine_op, op_code, ops_code, main_code};
 

@@ -4,7 +4,7 @@ ghost use Rattle.oi_world.specs.Desk.{Files, HasCause, read_of};
 ghost use Rattle.oi_world.specs.declared.desk.DeskFault.TheVariants.{Absent};
 ghost use Rattle.optinline.specs.Words.{texts_of, command_of};
 ghost use Rattle.optinline.specs.Delivered.{Delivers};
-ghost use Rattle.optinline.specs.Answer.{Answer, answer_of, IsAnswer, HasCauses, IsAbsent, IsTooLong, IsLeftOut, IsAccepted, IsStatus, IsUntouched, Answered, Interrupted, Fronted, Leaves, Runs};
+ghost use Rattle.optinline.specs.Answer.{Answer, answer_of, IsAnswer, HasCauses, IsAbsent, IsTooLong, IsRefused, IsNotBuilt, IsAccepted, IsStatus, IsUntouched, Answered, Interrupted, Fronted, Leaves, Runs};
 
 use crate::answer::{MODULE_LIMIT, build_reply, refuse};
 use crate::reply::{Reply, write_all};
@@ -92,7 +92,7 @@ pub fn tool<D: Desk>(alloc: Global, words: &[String], desk: &mut D) -> u8
     ensures answered { result ≢ 3 → result ≢ 12 → IfSome (D.files desk.old) (λ files.
         (a : Answer) × IsAnswer (texts_of words.now) files a × Answered a result (D.files desk.old) (D.files desk.new) (D.said desk.old) (D.said desk.new)) }
 
-    // Where the answer is 0, the words are a build of a module in the accepted text. OBJECT is the ELF file of an image
+    // Where the answer is 0, the words are a build of the text of a valid module. OBJECT is the ELF file of an image
     // that, on every input, does what the module says as long as that is defined, in both directions; its text has the
     // size of the map that DECISIONS holds, no map gives less, and CERT is the certificate of that.
     ensures refines { result ≡ 0 → IfSome (D.files desk.old) (λ files. (after : Files) × (D.files desk.new ≡ Some after) × Delivers (texts_of words.now) files after) }
@@ -102,11 +102,12 @@ pub fn tool<D: Desk>(alloc: Global, words: &[String], desk: &mut D) -> u8
     ensures failed { (result ≡ 3) ↔ (D.faults desk.old < D.faults desk.new) }
     ensures absent { result ≢ 3 → result ≢ 12 → IfSome (D.files desk.old) (λ files. (result ≡ 18) ↔ IsAbsent (texts_of words.now) files) }
     ensures too_long { result ≢ 3 → result ≢ 12 → IfSome (D.files desk.old) (λ files. (result ≡ 9) ↔ IsTooLong (texts_of words.now) files) }
-    ensures left_out { result ≢ 3 → result ≢ 12 → IfSome (D.files desk.old) (λ files. (result ≡ 4) ↔ IsLeftOut (texts_of words.now) files) }
+    ensures refused { result ≢ 3 → result ≢ 12 → IfSome (D.files desk.old) (λ files. (result ≡ 4) ↔ IsRefused (texts_of words.now) files) }
+    ensures not_built { result ≢ 3 → result ≢ 12 → IfSome (D.files desk.old) (λ files. (result ≡ 13) ↔ IsNotBuilt (texts_of words.now) files) }
     ensures done { result ≢ 3 → result ≢ 12 → IfSome (D.files desk.old) (λ files. (result ≡ 0) ↔ IsAccepted (texts_of words.now) files) }
     ensures statuses { IsStatus result ⊎ ((result ≡ 3) ⊎ (result ≡ 12)) }
 
-    // A build of an accepted module is done, unless the desk fails or memory runs out.
+    // A build of a valid module of which all is built is done, unless the desk fails or memory runs out.
     ensures complete { IfSome (D.files desk.old) (λ files. IsAccepted (texts_of words.now) files → D.faults desk.new ≡ D.faults desk.old → (result ≡ 0) ⊎ (result ≡ 12)) }
 
     // After another status than 0, 3 and 12 all files are as before. A run that ended early has done nothing, or a

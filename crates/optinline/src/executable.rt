@@ -1,5 +1,5 @@
 ghost use Rattle.std.specs.Prelude.{◌≡◌, ◌∷◌, [], IfOk, codes, true, length};
-ghost use Rattle.optinline.specs.Parsing.{IsKnownBody};
+ghost use Rattle.optinline.specs.Bodies.{IsKnownBody};
 ghost use Rattle.optinline.specs.Lowering.{size, body_size};
 ghost use Rattle.optinline.specs.Executable.{image, main_function, object};
 

@@ -1,19 +1,25 @@
 ghost use Rattle.std.specs.Prelude.{◌≡◌, ◌∷◌, [], ℕ, List, length};
+ghost use Rattle.ir_core.specs.declared.module.Module as modules;
 ghost use Rattle.ir_core.specs.Flat.{flat_run};
+ghost use Rattle.ir_core.specs.Proper.{IsProper};
 ghost use Rattle.ir_core.specs.Source.{src};
+ghost use Rattle.ir_core.specs.Valid.{IsValid};
 ghost use Rattle.rv_isa.specs.Isa.{run};
 ghost use Rattle.rv_isa.specs.Refines.{Refines};
 ghost use Rattle.optinline.specs.declared.body.Body as bodies;
+ghost use Rattle.optinline.specs.Bodies.{IsDefined};
 ghost use Rattle.optinline.specs.Lowering.{frame_size};
 ghost use Rattle.optinline.specs.Executable.{image, main_function};
-ghost use Rattle.optinline.specs.Meaning.{IsDefined, flat_program, module_of};
+ghost use Rattle.optinline.specs.MainBody.{main_body};
+ghost use Rattle.optinline.specs.Meaning.{flat_program};
 ghost use Rattle.optinline.specs.Layout.{segments_of};
+ghost use Rattle.optinline.specs.Unbuilt.{unbuilt};
 
-/// The run of the module of a `main`, whose registers are defined before they are used, is that of its flat body: after any
-/// number of turns both have the same output, status and depth. It does nothing: its contract is the law.
+/// The run of a valid module of which all is built is that of the flat body of its `main`: after any number of turns both
+/// have the same output, status and depth. It does nothing: its contract is the law.
 #[tactic(auto, using(crate::proofs::ModuleRuns::runs_as_flat))]
 pub fn a_module_runs_as_its_flat_body()
-    ensures { (names : List (List ℕ)) (b : bodies.Body) → IsDefined b → (input : List ℕ) (n : ℕ) → flat_run (flat_program b) input n ≡ src (module_of names b) input n }
+    ensures { (m : modules.Module) → IsProper m → IsValid m → unbuilt m ≡ [] → (input : List ℕ) (n : ℕ) → flat_run (flat_program (main_body m)) input n ≡ src m input n }
 {}
 
 /// The run of the image of a `main`, whose registers are defined before they are used, refines the run of its flat body,

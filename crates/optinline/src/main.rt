@@ -7,12 +7,13 @@ mod body;
 mod code;
 mod command;
 mod executable;
+mod faults;
 mod laws;
-mod names;
-mod reading;
+mod one_block;
 mod reply;
 #[cfg(test)]
 mod tests;
+mod unbuilt;
 mod words;
 
 use command::tool;
