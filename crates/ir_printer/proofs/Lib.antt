@@ -1,0 +1,22 @@
+mod Lists
+mod Levels
+mod Turns
+mod Strings
+mod Digits
+mod WordForms
+mod Stream
+pub mod TextTokens
+mod Positions
+mod Reprinting
+mod NamesReprinted
+mod LocalsReprinted
+mod RoundsReprinted
+mod TokensReprinted
+mod ListsReprinted
+mod TypesReprinted
+mod QuietForms
+mod ValuesReprinted
+mod ArgumentsReprinted
+mod OperationsReprinted
+mod ListingsReprinted
+mod CallsReprinted
