@@ -8,3 +8,5 @@ pub mod Tested
 pub mod Using
 pub mod Breaking
 pub mod Told
+pub mod WaysDecided
+pub mod FirstDecided

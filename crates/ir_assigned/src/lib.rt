@@ -4,6 +4,7 @@
 mod definite;
 mod fault;
 mod graph;
+mod laws;
 mod names;
 mod search;
 mod table;
@@ -14,3 +15,4 @@ mod uses;
 
 pub use definite::assigned;
 pub use fault::{AssignFault, BlockPath, Unassigned};
+pub use laws::assignment_is_decided;

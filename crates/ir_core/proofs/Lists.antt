@@ -108,6 +108,12 @@ has_source {A} {B} f (x ∷ xs) y h = by_first (f x) refl (λ g. has_source f xs
         here (inl same) = (x, inl refl, e ∙ ap Some same)
         here (inr h') = later (rest h')
 
+-- an element at each position
+pub element : {A : Type 0} (xs : List A) (k : ℕ) → k < length xs → (e : A) × (slice_get xs k ≡ Some e)
+element [] k h = absurd (omega arith)
+element (y ∷ ys) zero h = (y, refl)
+element (y ∷ ys) (suc k) h = element ys k (omega arith)
+
 -- ---- places
 
 module _ {A : Type 0} (key : A → ℕ) where
@@ -140,17 +146,12 @@ module _ {A : Type 0} (key : A → ℕ) where
           let n : 1 + place ys x ≡ suc (place ys x) = omega arith in
           rest (subst (λ k. slice_get (y ∷ ys) k ≡ Some e) n next)
 
-  pub some_within : (xs : List A) (k : ℕ) → k < length xs → (e : A) × (slice_get xs k ≡ Some e)
-  some_within [] k h = absurd (omega arith)
-  some_within (y ∷ ys) zero h = (y, refl)
-  some_within (y ∷ ys) (suc k) h = some_within ys k (omega arith)
-
   -- a key that stands in the list has a place of its own
   pub place_own : (xs : List A) (x d : ℕ) → place xs d < length xs → (place xs x == place xs d) ≡ (x == d)
   place_own xs x d h = by_test (place xs x == place xs d) (x == d) refl refl
     where
       at_d : (e : A) × (slice_get xs (place xs d) ≡ Some e)
-      at_d = some_within xs (place xs d) h
+      at_d = element xs (place xs d) h
 
       by_test : (s t : Bool) → (place xs x == place xs d) ≡ s → (x == d) ≡ t → s ≡ t
       by_test true true p q = refl

@@ -21,4 +21,5 @@ mod TypesFound
 mod ValueLaws
 mod VerdictLaws
 mod VerdictTold
+pub mod VerdictDecided
 mod PlainLaws

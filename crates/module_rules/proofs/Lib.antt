@@ -16,6 +16,7 @@ mod UseLaws
 mod Reaching
 mod TypeNameLaws
 mod InParts
+mod MainLaws
 mod AlignLaws
 mod SizeLevels
 mod LaidUses
@@ -28,3 +29,4 @@ mod TargetLaws
 mod SymbolLaws
 mod NameSums
 mod TotalLaws
+pub mod RulesDecided

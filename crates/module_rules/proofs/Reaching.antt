@@ -1,5 +1,5 @@
 -- Sets of names to which a name leads, and that those which are closed have all names on its cycles.
-use Rattle.std.proofs.Common.{◌≡◌, ◌⊎◌, inl, inr, refl, sym, ap, ◌∙◌, subst, ⊎_elim, Bool, true, false, if◌then◌else◌, ◌||◌, nat_eq, nat_le, ℕ, zero, suc, ◌+◌, ◌<◌, ◌≤◌, ◌==◌, List, [], ◌∷◌, ◌++◌, map, length, Option, Some, None, slice_get, Contains, arith}
+use Rattle.std.proofs.Common.{◌≡◌, ◌⊎◌, inl, inr, refl, sym, ap, ◌∙◌, subst, ⊎_elim, Bool, true, false, if◌then◌else◌, ◌||◌, nat_eq, nat_le, ℕ, ◌+◌, ◌<◌, ◌≤◌, ◌==◌, List, [], ◌∷◌, ◌++◌, map, length, Option, Some, None, slice_get, Contains, arith}
 use Rattle.std.specs.List.{flat_map, list_any, list_all, IsDistinct, AllByRecursion}
 use Rattle.std.specs.Bool.{Decides}
 use Rattle.std.proofs.lemmas.Bool.{cases_lt}
@@ -16,7 +16,7 @@ use Rattle.ir_core.specs.Parts.{names_in_type, const_types, func_types, func_con
 use Rattle.ir_core.specs.Sizes.{definition}
 use Rattle.ir_core.specs.Acyclic.{Holds, Leads, HoldsItself}
 use Rattle.ir_core.specs.Proper.{IsProper}
-use Rattle.ir_core.proofs.Lists.{Has, has_left, has_right, has_part, has_at, at_has, contains}
+use Rattle.ir_core.proofs.Lists.{Has, has_left, has_right, has_part, has_at, at_has, contains, element}
 use Rattle.ir_core.proofs.Names.{defined}
 use Rattle.module_rules.specs.Faults.{with_number, with_numbers}
 use Rattle.module_rules.specs.Cycles.{rank_of, NeverRise, number_if, of_rank, held_names, held, HoldsWithin, IsClosedUpTo, AreReached}
@@ -39,15 +39,10 @@ kept : (more ns : List ℕ) (k y : ℕ) → slice_get ns k ≡ Some y → slice_
 kept [] ns k y e = e
 kept (m ∷ ms) ns k y e = kept ms (with_number ns m) k y (kept_one ns m k y e)
 
-within : (ns : List ℕ) (k : ℕ) → k < length ns → (y : ℕ) × (slice_get ns k ≡ Some y)
-within [] k lt = absurd (omega (arith, lt))
-within (n ∷ ns) zero lt = (n, refl)
-within (n ∷ ns) (suc k) lt = within ns k (omega (arith, lt))
-
 -- what stands at a place that there was before stood there before
 stood : (more ns : List ℕ) (k y : ℕ) → k < length ns → slice_get (with_numbers ns more) k ≡ Some y → slice_get ns k ≡ Some y
 stood more ns k y lt e =
-    let z = within ns k lt in
+    let z = element ns k lt in
     let same : z.0 ≡ y = one_at (with_numbers ns more) k z.0 y (kept more ns k z.0 z.1) e in
     z.1 ∙ ap Some same
 
@@ -202,7 +197,7 @@ pub closed_narrower : (ranks : List ℕ) (rank : ℕ) (defs : List TypeDef) (ns 
 closed_narrower ranks rank defs ns n m le closed k y lt = closed k y (omega (arith, le, lt))
 
 pub none_at : (ns : List ℕ) (k : ℕ) → slice_get ns k ≡ None → length ns ≤ k
-none_at ns k e = ⊎_elim (λ lt. absurd (let w = within ns k lt in let clash : None ≡ Some w.0 = sym e ∙ w.1 in cc)) (λ ge. ge) (cases_lt k (length ns))
+none_at ns k e = ⊎_elim (λ lt. absurd (let w = element ns k lt in let clash : None ≡ Some w.0 = sym e ∙ w.1 in cc)) (λ ge. ge) (cases_lt k (length ns))
 
 module _ (ranks : List ℕ) (defs : List TypeDef) (falling : NeverRise ranks defs) where
   down : (x z : TypeName) (between : List TypeName) → Leads defs x between z → rank_of ranks z ≤ rank_of ranks x

@@ -1,10 +1,14 @@
--- What the function `@main` has to be.
-use Rattle.std.specs.Prelude.{◌≡◌, false, [], codes}
-use Rattle.oi_base.specs.declared.words.Width.TheVariants.{W32}
-use Rattle.ir_core.specs.declared.ty.IrType.{Int}
+-- Whether a module has the function `@main` that it has to have.
+use Rattle.std.specs.Prelude.{Bool, true, false, not, ◌&&◌, List, []}
 use Rattle.ir_core.specs.declared.module.Module.{Module}
 use Rattle.ir_core.specs.declared.func.Func.{Func}
-use Rattle.ir_core.specs.Stands.{symbol_text}
+use Rattle.ir_core.specs.declared.func.Param.{Param}
+use Rattle.ir_core.specs.Source.{is_main}
+use Rattle.module_rules.specs.Walks.{is_word}
 
-abbrev pub IsMain : Module → Func → Type 0
-IsMain m f = (symbol_text m f.name ≡ codes "main") × (f.internal ≡ false) × (f.params ≡ []) × (f.result ≡ Int W32)
+abbrev pub is_empty : List Param → Bool
+is_empty [] = true
+is_empty _ = false
+
+unfoldable pub is_good_main : Module → Func → Bool
+is_good_main m f = is_main m f && (not f.internal && (is_empty f.params && is_word f.result))

@@ -1,34 +1,45 @@
-ghost use Rattle.std.specs.Prelude.{◌≡◌, true, false, codes};
-ghost use Rattle.ir_core.specs.Stands.{symbol_text};
+ghost use Rattle.std.specs.Prelude.{◌≡◌};
+ghost use Rattle.std.specs.List.{list_any};
+ghost use Rattle.ir_core.specs.Source.{is_main};
 ghost use Rattle.ir_core.specs.ValidModule.{BreaksMain};
 ghost use Rattle.module_rules.specs.First.{IsFound};
-ghost use Rattle.module_rules.specs.HasMain.{IsMain};
+ghost use Rattle.module_rules.specs.HasMain.{is_empty, is_good_main};
 
-use ir_core::{Func, IrType, Module};
-use oi_base::{Place, Width};
+use crate::walk::is_word;
+use ir_core::{Func, Module, Param};
+use oi_base::{Items, Place};
 
 /// The text's start, where no external definition `@main` without parameters and with result `i32` stands.
 pub fn first_break(m: &Module) -> Option<Place>
     ensures { IsFound (BreaksMain m.now) result }
 {
-    for func in m.funcs.as_slice() {
-        if is_main(m, func) {
-            return None;
-        }
+    if has_main(m) {
+        return None;
     }
     Some(Place { line: 1, column: 1 })
 }
 
-fn is_main(m: &Module, func: &Func) -> bool
-    ensures yes { result ≡ true → IsMain m.now func.now }
-    ensures no { result ≡ false → IsMain m.now func.now → ⊥ }
+fn has_main(m: &Module) -> bool
+    ensures { result ≡ list_any (is_good_main m.now) m.now.funcs }
 {
-    is_named_main(m, func) && !func.internal && func.params.is_empty() && is_word(&func.result)
+    for func in m.funcs.as_slice() {
+        if is_good_main(m, func) {
+            return true;
+        }
+    }
+    false
 }
 
-fn is_named_main(m: &Module, func: &Func) -> bool
-    ensures yes { result ≡ true → symbol_text m.now func.now.name ≡ codes "main" }
-    ensures no { result ≡ false → symbol_text m.now func.now.name ≡ codes "main" → ⊥ }
+#[tactic(auto, unfolding(crate::specs::HasMain::is_good_main))]
+fn is_good_main(m: &Module, func: &Func) -> bool
+    ensures { result ≡ is_good_main m.now func.now }
+{
+    is_main(m, func) && !func.internal && is_empty(&func.params) && is_word(&func.result)
+}
+
+/// Whether a function's name is `main`.
+pub fn is_main(m: &Module, func: &Func) -> bool
+    ensures { result ≡ is_main m.now func.now }
 {
     match m.symbols.get(func.name.0 as usize) {
         Some(text) => text.as_slice() == b"main".as_slice(),
@@ -36,12 +47,8 @@ fn is_named_main(m: &Module, func: &Func) -> bool
     }
 }
 
-fn is_word(t: &IrType) -> bool
-    ensures yes { result ≡ true → t.now ≡ IrType.Int Width.W32 }
-    ensures no { result ≡ false → t.now ≡ IrType.Int Width.W32 → ⊥ }
+fn is_empty(params: &Items<Param>) -> bool
+    ensures { result ≡ is_empty params.now }
 {
-    match t {
-        IrType::Int(Width::W32) => true,
-        _ => false,
-    }
+    params.is_empty()
 }

@@ -11,6 +11,7 @@ pub mod has_main;
 mod init_tests;
 pub mod initialisers;
 mod integers;
+mod laws;
 mod measure;
 mod numbers;
 mod same_types;
@@ -29,7 +30,8 @@ mod walk;
 
 pub use first::{earlier, earlier_if, is_up_to};
 pub use integers::{count_fits, counts_fit, fits_type, is_bit, is_pointer, words};
+pub use laws::a_rule_of_a_module_is_decided;
 pub use numbers::Numbers;
 pub use same_types::{same_type, same_width};
 pub use variables::global_numbers;
-pub use walk::{const_walks, is_integer, next_by, walks};
+pub use walk::{const_walks, is_integer, is_word, next_by, walks};

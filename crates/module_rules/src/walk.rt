@@ -13,7 +13,8 @@ pub fn is_integer(t: &IrType) -> bool
     matches!(t, IrType::Int(_))
 }
 
-fn is_word(t: &IrType) -> bool
+/// Whether it is `i32`.
+pub fn is_word(t: &IrType) -> bool
     ensures { result ≡ is_word t.now }
 {
     matches!(t, IrType::Int(Width::W32))

@@ -1,11 +1,13 @@
 -- The answer to words on a desk with files is a function of both.
-use Rattle.std.proofs.Common.{◌≡◌, ◌≢◌, Bool, true, false, List, [], ◌∷◌, ℕ, zero, suc, ◌≤◌, length, Option, Some, None, Ok, Err, slice_get, Contains, refl, sym, ap, ap₂, ◌∙◌, subst, inl, inr, arith}
+use Rattle.std.proofs.Common.{◌≡◌, ◌≢◌, ◌⊎◌, Bool, true, false, List, [], ◌∷◌, ℕ, zero, suc, ◌≤◌, length, Option, Some, None, Ok, Err, slice_get, Contains, refl, sym, ap, ap₂, ◌∙◌, subst, inl, inr, arith}
 use Rattle.std.specs.Prelude.{nat_lt, MatchBool, codes, ◌++◌}
 use Rattle.std.specs.FinMap as finite
 use Rattle.oi_base.specs.declared.ids.Place.{Place}
 use Rattle.oi_world.specs.Desk.{Files}
 use Rattle.ir_lexer.specs.declared.table.Spot.{Spot}
 use Rattle.ir_core.specs.declared.module.Module.{Module}
+use Rattle.ir_core.specs.FirstBroken.{IsFirstBroken}
+use Rattle.ir_core.specs.Proper.{IsProper}
 use Rattle.ir_core.specs.Valid.{IsValid}
 use Rattle.call_graph.specs.declared.sites.Site.{Site}
 use Rattle.call_graph.specs.Sites.{all_sites}
@@ -18,8 +20,9 @@ use Rattle.ir_grammar.specs.Reading.{ReadsWithinLimits, FirstRefused, read as re
 use Rattle.ir_grammar.proofs.Faults.{read_to_end, first_refused, exceeded_place, exceeded_told}
 use Rattle.ir_phrases.specs.declared.fault.ReadFault.{ReadFault}
 use Rattle.ir_phrases.specs.declared.fault.ReadFault.TheVariants as faults
-use Rattle.ir_reader.specs.Refusals.{ExceedsNone, IsRefusal}
-use Rattle.ir_verifier.proofs.OneVerdict.{one_first, one_first_broken, broken_not_valid, none_is_valid}
+use Rattle.ir_reader.specs.Refusals.{ReadsWithin, ExceedsNone, IsRefusal}
+use Rattle.ir_verifier.proofs.OneVerdict.{one_first, one_first_broken, broken_not_valid}
+use Rattle.ir_verifier.proofs.VerdictDecided.{verdict}
 use Rattle.module_rules.specs.First.{earliest, IsFound}
 use Rattle.optinline.specs.Words.{Words, command_of}
 use Rattle.optinline.specs.MainBody.{main_body}
@@ -27,7 +30,7 @@ use Rattle.optinline.specs.Unbuilt.{unbuilt}
 use Rattle.optinline.specs.Answer.{Answer, refusal, refused, rule_word, not_yet, fault_place, fault_word, built, module_limit, IsValidAnswer, not_built, accepted, IsReadAnswer, broken, valid, IsModuleAnswer, unread, read, IsFileAnswer, IsCommandAnswer, IsAnswer}
 use Rattle.optinline.proofs.Answered.{first_of_some}
 use Rattle.optinline.proofs.FirstUnbuilt.{first_place}
-use Rattle.optinline.proofs.Refusals.{refusal_said, refusal_none, one_within}
+use Rattle.optinline.proofs.Refusals.{refusal_said, refusal_none, one_within, read_proper}
 
 -- ---- there is one
 
@@ -40,80 +43,87 @@ other_why : (w : Which) → Refused ≡ Exceeds w → ⊥
 other_why w e = cc
 
 module _ (words : Words) where
-  module _ (m : Module) (none : (a : Answer) → IsReadAnswer words m a → ⊥) where
-    if_valid : IsValid m → ⊥
-    if_valid v = by_first (earliest None (unbuilt m)) (first_place (unbuilt m))
+  module _ (m : Module) where
+    to_valid : IsValid m → (a : Answer) × IsReadAnswer words m a
+    to_valid v = by_first (earliest None (unbuilt m)) (first_place (unbuilt m))
       where
         no_place : (ps : List Place) → ((p : Place) → Contains ps p → ⊥) → ps ≡ []
         no_place [] h = refl
         no_place (p ∷ ps) h = absurd (h p (0, omega arith, refl))
 
-        by_first : (o : Option Place) → IsFound (λ q. Contains (unbuilt m) q) o → ⊥
-        by_first None h = none (built words (main_body m)) (valid v (accepted (no_place (unbuilt m) h) refl))
-        by_first (Some p) h = none (not_yet p) (valid v (not_built p h refl))
+        by_first : (o : Option Place) → IsFound (λ q. Contains (unbuilt m) q) o → (a : Answer) × IsReadAnswer words m a
+        by_first None h = (built words (main_body m), valid v (accepted (no_place (unbuilt m) h) refl))
+        by_first (Some p) h = (not_yet p, valid v (not_built p h refl))
 
-    not_read : ⊥
-    not_read = if_valid (none_is_valid m (λ rule p h. none (refused p (rule_word rule)) (broken rule p h refl)))
+    to_read : IsProper m → (a : Answer) × IsReadAnswer words m a
+    to_read proper = by_verdict (verdict m proper)
+      where
+        by_verdict : IsValid m ⊎ ((rule : ℕ) × (p : Place) × IsFirstBroken m rule p) → (a : Answer) × IsReadAnswer words m a
+        by_verdict (inl v) = to_valid v
+        by_verdict (inr (rule, p, h)) = (refused p (rule_word rule), broken rule p h refl)
 
-  module _ (bytes : List ℕ) (none : (a : Answer) → IsModuleAnswer words bytes a → ⊥) where
-    not_refused : (e : ReadFault) → e ≢ faults.NoMemory → IsRefusal bytes e → ⊥
-    not_refused e other h = none (refused (fault_place e) (fault_word e)) (unread e other h refl)
+  module _ (bytes : List ℕ) where
+    to_unread : (e : ReadFault) → e ≢ faults.NoMemory → IsRefusal bytes e → (a : Answer) × IsModuleAnswer words bytes a
+    to_unread e other h = (refused (fault_place e) (fault_word e), unread e other h refl)
 
     -- a token that is refused
-    at_token : (at : List Piece) → reading bytes ≡ Err (record { at = at; why = Refused }) → ⊥
+    at_token : (at : List Piece) → reading bytes ≡ Err (record { at = at; why = Refused }) → (a : Answer) × IsModuleAnswer words bytes a
     at_token at e = let f = first_refused bytes at e in by_piece f.0 f.1 f.2 f.4
       where
         no_limit : ExceedsNone bytes
         no_limit w u t rest x = other_why w (sym (ap why_of e) ∙ ap why_of (exceeded_told bytes w u t rest x))
 
-        by_name : (u rest : List Piece) (s : Spot) (b : Bool) → is_left_out s.token ≡ b → FirstRefused bytes u (Is s) rest → ⊥
-        by_name u rest s true b first = not_refused (faults.LeftOut s.place) (λ z. cc) (u, rest, s, first, refl, b, no_limit)
-        by_name u rest s false b first = not_refused (faults.Syntax s.place) (λ z. cc) (u, rest, s, first, refl, b, no_limit)
+        by_name : (u rest : List Piece) (s : Spot) (b : Bool) → is_left_out s.token ≡ b → FirstRefused bytes u (Is s) rest → (a : Answer) × IsModuleAnswer words bytes a
+        by_name u rest s true b first = to_unread (faults.LeftOut s.place) (λ z. cc) (u, rest, s, first, refl, b, no_limit)
+        by_name u rest s false b first = to_unread (faults.Syntax s.place) (λ z. cc) (u, rest, s, first, refl, b, no_limit)
 
-        by_piece : (u rest : List Piece) (t : Piece) → FirstRefused bytes u t rest → ⊥
-        by_piece u rest (Bad x) first = not_refused (faults.Lexical x) (λ z. cc) ((u, rest, first), no_limit)
+        by_piece : (u rest : List Piece) (t : Piece) → FirstRefused bytes u t rest → (a : Answer) × IsModuleAnswer words bytes a
+        by_piece u rest (Bad x) first = to_unread (faults.Lexical x) (λ z. cc) ((u, rest, first), no_limit)
         by_piece u rest (Is s) first = by_name u rest s (is_left_out s.token) refl first
 
-    at_limit : (at : List Piece) (w : Which) → reading bytes ≡ Err (record { at = at; why = Exceeds w }) → ⊥
-    at_limit at w e = let x = exceeded_place bytes at w e in not_refused (faults.Limit x.2.place w) (λ z. cc) (inl (x.0, x.1, x.2, x.4, refl))
+    at_limit : (at : List Piece) (w : Which) → reading bytes ≡ Err (record { at = at; why = Exceeds w }) → (a : Answer) × IsModuleAnswer words bytes a
+    at_limit at w e = let x = exceeded_place bytes at w e in to_unread (faults.Limit x.2.place w) (λ z. cc) (inl (x.0, x.1, x.2, x.4, refl))
 
-    at_module : (m : Module) → ReadsWithinLimits bytes m → ⊥
+    at_module : (m : Module) → ReadsWithinLimits bytes m → (a : Answer) × IsModuleAnswer words bytes a
     at_module m h = by_site (slice_get (all_sites m.funcs) 4096) refl
       where
-        by_site : (o : Option Site) → slice_get (all_sites m.funcs) 4096 ≡ o → ⊥
-        by_site (Some s) e = not_refused (faults.Limit s.place limits.Sites) (λ z. cc) (inr (refl, (m, h, s, e, refl)))
-        by_site None e = not_read m (λ a k. none a (read m (h, few (all_sites m.funcs) 4096 e) k))
+        by_site : (o : Option Site) → slice_get (all_sites m.funcs) 4096 ≡ o → (a : Answer) × IsModuleAnswer words bytes a
+        by_site (Some s) e = to_unread (faults.Limit s.place limits.Sites) (λ z. cc) (inr (refl, (m, h, s, e, refl)))
+        by_site None e =
+            let within : ReadsWithin bytes m = (h, few (all_sites m.funcs) 4096 e) in
+            let a = to_read m (read_proper bytes m within) in
+            (a.0, read m within a.1)
           where
             few : (ss : List Site) (n : ℕ) → slice_get ss n ≡ None → length ss ≤ n
             few [] n z = omega arith
             few (s ∷ ss) zero z = absurd cc
             few (s ∷ ss) (suc n) z = let l = few ss n z in omega (arith, l)
 
-    not_module : ⊥
-    not_module = by_reading (reading bytes) refl
+    to_module : (a : Answer) × IsModuleAnswer words bytes a
+    to_module = by_reading (reading bytes) refl
       where
-        by_reading : (o : Outcome Module) → reading bytes ≡ o → ⊥
+        by_reading : (o : Outcome Module) → reading bytes ≡ o → (a : Answer) × IsModuleAnswer words bytes a
         by_reading (Ok r) e = at_module r.0 (read_to_end bytes r.0 r.1 e)
         by_reading (Err d) e = by_why d.why d.at e
           where
-            by_why : (why : Why) (at : List Piece) → reading bytes ≡ Err (record { at = at; why = why }) → ⊥
+            by_why : (why : Why) (at : List Piece) → reading bytes ≡ Err (record { at = at; why = why }) → (a : Answer) × IsModuleAnswer words bytes a
             by_why Refused at z = at_token at z
             by_why (Exceeds w) at z = at_limit at w z
 
-  not_long : (bytes : List ℕ) (long : Bool) → ((a : Answer) → MatchBool long (a ≡ refusal 9 (codes "too long " ++ words.«module» ++ codes "\n")) (IsModuleAnswer words bytes a) → ⊥) → ⊥
-  not_long bytes true none = none (refusal 9 (codes "too long " ++ words.«module» ++ codes "\n")) refl
-  not_long bytes false none = not_module bytes none
+  to_bytes : (bytes : List ℕ) (long : Bool) → (a : Answer) × MatchBool long (a ≡ refusal 9 (codes "too long " ++ words.«module» ++ codes "\n")) (IsModuleAnswer words bytes a)
+  to_bytes bytes true = (refusal 9 (codes "too long " ++ words.«module» ++ codes "\n"), refl)
+  to_bytes bytes false = to_module bytes
 
-  not_file : (file : Option (List ℕ)) → ((a : Answer) → IsFileAnswer words file a → ⊥) → ⊥
-  not_file None none = none (refusal 18 (codes "absent " ++ words.«module» ++ codes "\n")) refl
-  not_file (Some bytes) none = not_long bytes (nat_lt module_limit (length bytes)) none
+  to_file : (file : Option (List ℕ)) → (a : Answer) × IsFileAnswer words file a
+  to_file None = (refusal 18 (codes "absent " ++ words.«module» ++ codes "\n"), refl)
+  to_file (Some bytes) = to_bytes bytes (nat_lt module_limit (length bytes))
 
-not_command : (command : Option Words) (files : Files) → ((a : Answer) → IsCommandAnswer command files a → ⊥) → ⊥
-not_command None files none = none (refusal 2 (codes "words\n")) refl
-not_command (Some words) files none = not_file words (finite.get files words.«module») none
+to_command : (command : Option Words) (files : Files) → (a : Answer) × IsCommandAnswer command files a
+to_command None files = (refusal 2 (codes "words\n"), refl)
+to_command (Some words) files = to_file words (finite.get files words.«module»)
 
-pub not_unanswered : (words : List (List ℕ)) (files : Files) → ((a : Answer) → IsAnswer words files a → ⊥) → ⊥
-not_unanswered words files none = not_command (command_of words) files none
+pub an_answer_to : (words : List (List ℕ)) (files : Files) → (a : Answer) × IsAnswer words files a
+an_answer_to words files = to_command (command_of words) files
 
 -- ---- there is one at most
 

@@ -5,10 +5,8 @@ use Rattle.std.specs.List.{flat_map, position_or_len}
 use Rattle.std.proofs.lemmas.Bool.Decides.{nat_tests}
 use Rattle.std.proofs.lemmas.List.Elements.{All-head, All-tail}
 use Rattle.oi_base.specs.declared.ids.Place.{Place}
-use Rattle.oi_base.specs.declared.words.Width.TheVariants.{W1, W8, W16, W32}
 use Rattle.ir_core.specs.declared.flat.BinOp.{BinOp}
 use Rattle.ir_core.specs.declared.flat.BinOp.TheVariants as bin
-use Rattle.ir_core.specs.declared.ty.IrType.{IrType, Void, Int, Ptr, Array', Struct', Named}
 use Rattle.ir_core.specs.declared.op.LocalId.{LocalId}
 use Rattle.ir_core.specs.declared.op.Op.{Op}
 use Rattle.ir_core.specs.declared.op.Op.TheVariants as ops
@@ -18,7 +16,7 @@ use Rattle.ir_core.proofs.Lists.{Each}
 use Rattle.module_rules.specs.Faults.{place_if}
 use Rattle.optinline.specs.Meaning.{bin_op}
 use Rattle.optinline.specs.MainBody.{sum_of}
-use Rattle.optinline.specs.Unbuilt.{is_i32, adds_or_subtracts, is_sum}
+use Rattle.optinline.specs.Unbuilt.{adds_or_subtracts, is_sum}
 
 -- ---- tests
 
@@ -91,17 +89,6 @@ not_among n ns e = by_test (nat_lt (position_or_len (nat_eq n) ns) (length ns)) 
     by_test false t e = let up = up_to_length n ns in let down : length ns ≤ position_or_len (nat_eq n) ns = grind (arith, nat_tests) in omega (arith, up, down)
 
 -- ---- forms
-
-pub is_word : (t : IrType) → is_i32 t ≡ true → t ≡ Int W32
-is_word (Int W32) e = refl
-is_word (Int W1) e = absurd cc
-is_word (Int W8) e = absurd cc
-is_word (Int W16) e = absurd cc
-is_word Void e = absurd cc
-is_word Ptr e = absurd cc
-is_word (Array' n _ items) e = absurd cc
-is_word (Struct' _ fields) e = absurd cc
-is_word (Named x) e = absurd cc
 
 pub is_kind : (kind : BinOp) → adds_or_subtracts kind ≡ true → kind ≡ bin_op (sum_of kind)
 is_kind bin.Add e = refl

@@ -37,13 +37,15 @@ use Rattle.ir_core.specs.Plain.{other_operand, other_instr, other_end, other_phi
 use Rattle.ir_core.specs.Valid.{IsValidFunc}
 use Rattle.ir_core.specs.ValidFunc.{LocalAt, instr_local, block_locals_at, locals_at, IsPhi}
 use Rattle.ir_core.specs.ValidPaths.{IsBlockOf, IsPathOf, IsAssigned, IsUse}
-use Rattle.ir_core.proofs.Lists.{Has, Each, contains, has_left, has_right, place_within, place_has, has_at, some_within}
+use Rattle.ir_core.proofs.Lists.{Has, Each, contains, has_left, has_right, place_within, place_has, has_at, element}
 use Rattle.module_rules.proofs.Distinct.{IsDistinct, distinct_numbers, map_at}
 use Rattle.optinline.specs.Bodies.{IsKnown, OpIsKnown, AreDefined, IsDefined}
 use Rattle.optinline.specs.Meaning.{operand_of, bin_op, instr_of, instrs_of, flat_body}
 use Rattle.optinline.specs.MainBody.{value_in, sum_of, op_in, returned_in, result_number, result_numbers, registers_of, body_of, IsBuilt}
-use Rattle.optinline.specs.Unbuilt.{is_i32, is_simple, adds_or_subtracts, is_sum, returns_simple}
-use Rattle.optinline.proofs.Built.{left_passes, right_passes, is_word, is_kind, none_in}
+use Rattle.module_rules.specs.Walks.{is_word}
+use Rattle.module_rules.proofs.WalkLaws.{word_decides}
+use Rattle.optinline.specs.Unbuilt.{is_simple, adds_or_subtracts, is_sum, returns_simple}
+use Rattle.optinline.proofs.Built.{left_passes, right_passes, is_kind, none_in}
 use Rattle.optinline.proofs.OneMain.{IsSumInstr, IsOneMain}
 
 same_some : {A : Type 0} (x y : A) → Some x ≡ Some y → x ≡ y
@@ -211,7 +213,7 @@ module _ (m : Module) (f : Func) (b : Block) (shape : IsOneMain m f b) (valid : 
   place_is k d at =
       let key : LocalId → ℕ = λ (r : LocalId). r.0 in
       let within : place_of d.0 < length rs = place_within key rs d (has_at rs k d at) in
-      let there = some_within key rs (place_of d.0) within in
+      let there = element rs (place_of d.0) within in
       let same : there.0.0 ≡ d.0 = place_has key rs d.0 there.0 there.1 in
       let up : place_of d.0 ≤ k = not_below (once k (place_of d.0) d there.0 at there.1 (sym same)) in
       let down : k ≤ place_of d.0 = not_below (once (place_of d.0) k there.0 d there.1 at same) in
@@ -288,10 +290,10 @@ module _ (m : Module) (f : Func) (b : Block) (shape : IsOneMain m f b) (valid : 
 
   row : (d : LocalId) (k : ℕ) (op : Op) → is_sum op ≡ true → (numbers f).reg d.0 ≡ k → Row d k op
   row d k (ops.Bin kind t a c) e same =
-      let parts = right_passes (adds_or_subtracts kind) (is_i32 t && (is_simple a && is_simple c)) e in
-      let simple = right_passes (is_i32 t) (is_simple a && is_simple c) parts in
-      let word = is_word t (left_passes (is_i32 t) (is_simple a && is_simple c) parts) in
-      let sum = is_kind kind (left_passes (adds_or_subtracts kind) (is_i32 t && (is_simple a && is_simple c)) e) in
+      let parts = right_passes (adds_or_subtracts kind) (is_word t && (is_simple a && is_simple c)) e in
+      let simple = right_passes (is_word t) (is_simple a && is_simple c) parts in
+      let word = (word_decides t).0 (left_passes (is_word t) (is_simple a && is_simple c) parts) in
+      let sum = is_kind kind (left_passes (adds_or_subtracts kind) (is_word t && (is_simple a && is_simple c)) e) in
       let left = operand_row t a word (left_passes (is_simple a) (is_simple c) simple) in
       let right = operand_row t c word (right_passes (is_simple a) (is_simple c) simple) in
       ap (λ (j : ℕ). Some (Bin (record { 0 = j }) kind (width_of t) (other_operand (numbers f) (rows.operand m t a)) (other_operand (numbers f) (rows.operand m t c)))) same
@@ -344,7 +346,7 @@ module _ (m : Module) (f : Func) (b : Block) (shape : IsOneMain m f b) (valid : 
 
   end_row : (e : End) → returns_simple e ≡ true → other_end (numbers f) (terminator m e) ≡ Ret (Some (operand_of (returned_in ns e)))
   end_row (ends.Ret (Some v)) e =
-      ap (λ o. Ret (Some o)) (operand_row v.ty v.value (is_word v.ty (left_passes (is_i32 v.ty) (is_simple v.value) e)) (right_passes (is_i32 v.ty) (is_simple v.value) e))
+      ap (λ o. Ret (Some o)) (operand_row v.ty v.value ((word_decides v.ty).0 (left_passes (is_word v.ty) (is_simple v.value) e)) (right_passes (is_word v.ty) (is_simple v.value) e))
   end_row (ends.Ret None) e = absurd cc
   end_row (ends.Br x) e = absurd cc
   end_row (ends.Cond c t x) e = absurd cc

@@ -3,10 +3,8 @@
 use Rattle.std.specs.Prelude.{Bool, true, false, not, ◌&&◌, if◌then◌else◌, List, [], ◌∷◌, ◌++◌, drop, Some}
 use Rattle.std.specs.List.{flat_map}
 use Rattle.oi_base.specs.declared.ids.Place.{Place}
-use Rattle.oi_base.specs.declared.words.Width.TheVariants.{W32}
 use Rattle.ir_core.specs.declared.flat.BinOp.{BinOp}
 use Rattle.ir_core.specs.declared.flat.BinOp.TheVariants.{Add, Sub}
-use Rattle.ir_core.specs.declared.ty.IrType.{IrType, Int}
 use Rattle.ir_core.specs.declared.constant.Const as consts
 use Rattle.ir_core.specs.declared.op.Operand.{Operand}
 use Rattle.ir_core.specs.declared.op.Operand.TheVariants.{Local, Const}
@@ -21,12 +19,9 @@ use Rattle.ir_core.specs.declared.module.GlobalVar.{GlobalVar}
 use Rattle.ir_core.specs.declared.module.Module.{Module}
 use Rattle.ir_core.specs.Source.{is_main}
 use Rattle.module_rules.specs.Faults.{place_if}
+use Rattle.module_rules.specs.Walks.{is_word}
 
 -- ---- forms
-
-abbrev pub is_i32 : IrType → Bool
-is_i32 (Int W32) = true
-is_i32 _ = false
 
 -- a register, or an integer
 abbrev pub is_simple : Operand → Bool
@@ -41,12 +36,12 @@ adds_or_subtracts _ = false
 
 -- `add i32 v, v` or `sub i32 v, v`
 abbrev pub is_sum : Op → Bool
-is_sum (Bin kind t a b) = adds_or_subtracts kind && (is_i32 t && (is_simple a && is_simple b))
+is_sum (Bin kind t a b) = adds_or_subtracts kind && (is_word t && (is_simple a && is_simple b))
 is_sum _ = false
 
 -- `ret i32 v`
 abbrev pub returns_simple : End → Bool
-returns_simple (Ret (Some v)) = is_i32 v.ty && is_simple v.value
+returns_simple (Ret (Some v)) = is_word v.ty && is_simple v.value
 returns_simple _ = false
 
 -- ---- places of what isn't built

@@ -205,8 +205,8 @@ pub fn build_reply(
     module_reply(alloc, build, bytes.as_slice())
 }
 
-/// The answer is a function of the words and the files: these are never without one, and have one at most.
+/// The answer is a function of the words and the files: there is always one, and one at most.
 pub fn an_answer_is_a_function()
-    ensures some { (words : List (List ℕ)) (files : Files) → ((a : Answer) → IsAnswer words files a → ⊥) → ⊥ }
+    ensures some { (words : List (List ℕ)) (files : Files) → (a : Answer) × IsAnswer words files a }
     ensures one { (words : List (List ℕ)) (files : Files) (a b : Answer) → IsAnswer words files a → IsAnswer words files b → a ≡ b }
 {}

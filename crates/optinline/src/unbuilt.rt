@@ -1,13 +1,13 @@
 ghost use Rattle.std.specs.Prelude.{◌≡◌, [], None, map, drop, not};
 ghost use Rattle.std.specs.List.{flat_map};
 ghost use Rattle.ir_core.specs.declared.func.Instr.{Instr as instrs};
-ghost use Rattle.ir_core.specs.Source.{is_main};
 ghost use Rattle.module_rules.specs.First.{earliest};
-ghost use Rattle.optinline.specs.Unbuilt.{is_i32, is_simple, adds_or_subtracts, is_sum, returns_simple, instr_unbuilt, block_places, instr_places, block_unbuilt, main_unbuilt, func_unbuilt, global_unbuilt, unbuilt};
+ghost use Rattle.optinline.specs.Unbuilt.{is_simple, adds_or_subtracts, is_sum, returns_simple, instr_unbuilt, block_places, instr_places, block_unbuilt, main_unbuilt, func_unbuilt, global_unbuilt, unbuilt};
 
-use ir_core::{BinOp, Block, Const, End, Func, GlobalVar, Instr, IrType, Module, Op, Operand};
-use module_rules::{earlier, earlier_if};
-use oi_base::{Place, Width};
+use ir_core::{BinOp, Block, Const, End, Func, GlobalVar, Instr, Module, Op, Operand};
+use module_rules::has_main::is_main;
+use module_rules::{earlier, earlier_if, is_word};
+use oi_base::Place;
 
 /// How many operations a block has at most.
 const MOST_OPS: usize = 400;
@@ -51,15 +51,6 @@ fn in_func(before: Option<Place>, m: &Module, f: &Func) -> Option<Place>
         in_main(before, f.blocks.as_slice())
     } else {
         earlier(before, f.place)
-    }
-}
-
-fn is_main(m: &Module, f: &Func) -> bool
-    ensures { result ≡ is_main m.now f.now }
-{
-    match m.symbols.get(f.name.0 as usize) {
-        Some(text) => text.as_slice() == b"main".as_slice(),
-        None => false,
     }
 }
 
@@ -144,7 +135,7 @@ fn is_sum(op: &Op) -> bool
 {
     match op {
         Op::Bin(kind, t, a, b) => {
-            adds_or_subtracts(*kind) && is_i32(t) && is_simple(a) && is_simple(b)
+            adds_or_subtracts(*kind) && is_word(t) && is_simple(a) && is_simple(b)
         }
         _ => false,
     }
@@ -154,12 +145,6 @@ fn adds_or_subtracts(kind: BinOp) -> bool
     ensures { result ≡ adds_or_subtracts kind }
 {
     matches!(kind, BinOp::Add | BinOp::Sub)
-}
-
-fn is_i32(t: &IrType) -> bool
-    ensures { result ≡ is_i32 t.now }
-{
-    matches!(t, IrType::Int(Width::W32))
 }
 
 fn is_simple(operand: &Operand) -> bool
@@ -172,7 +157,7 @@ fn returns_simple(end: &End) -> bool
     ensures { result ≡ returns_simple end.now }
 {
     match end {
-        End::Ret(Some(v)) => is_i32(&v.ty) && is_simple(&v.value),
+        End::Ret(Some(v)) => is_word(&v.ty) && is_simple(&v.value),
         _ => false,
     }
 }

@@ -1,5 +1,4 @@
 use Rattle.std.proofs.Common.{◌≡◌, drop}
-use Rattle.std.specs.List.{list_all}
 use Rattle.ir_verifier.specs.Plain.{has_no_zero}
 use Rattle.ir_verifier.proofs.plain.has_no_zero.Given as goal
 
