@@ -8,6 +8,7 @@ pub mod Instructions
 pub mod Known
 pub mod Memory
 pub mod Parts
+pub mod Places
 pub mod Plain
 pub mod Proper
 pub mod Rows

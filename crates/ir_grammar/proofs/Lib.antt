@@ -20,4 +20,5 @@ pub mod AgreementOfOperations
 pub mod AgreementOfBodies
 pub mod AgreementOfEntities
 pub mod Ends
+pub mod Stream
 pub mod Faults

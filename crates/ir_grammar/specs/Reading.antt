@@ -1,7 +1,8 @@
 -- The accepted text, and the module of a text.
-use Rattle.std.specs.Prelude.{◌≡◌, ℕ, List, [], ◌∷◌, ◌++◌, length}
+use Rattle.std.specs.Prelude.{◌≡◌, ℕ, ◌<◌, All, List, [], ◌∷◌, ◌++◌, length}
 use Rattle.ir_lexer.specs.declared.table.Spot.{Spot}
 use Rattle.ir_core.specs.declared.module.Module as modules
+use Rattle.ir_core.specs.Places.{AreSameButForPlaces}
 use Rattle.ir_grammar.specs.declared.which.Which.{Which}
 use Rattle.ir_grammar.specs.Pieces.{Piece, Is, pieces}
 use Rattle.ir_grammar.specs.Names.{Names, no_names}
@@ -20,6 +21,10 @@ Reads bytes m = ReadsPieces (unlimited (length (pieces bytes))) (pieces bytes) m
 -- a text of the module within the limits but that on call sites
 abbrev pub ReadsWithinLimits : List ℕ → modules.Module → Type 0
 ReadsWithinLimits bytes m = ReadsPieces stated (pieces bytes) m
+
+-- some text of bytes is one of this module, but for places
+abbrev pub IsReadable : modules.Module → Type 0
+IsReadable m = (bytes : List ℕ) × (read : modules.Module) × All (λ b. b < 256) bytes × Reads bytes read × AreSameButForPlaces read m
 
 -- some accepted text begins with these pieces
 abbrev pub IsFront : List Piece → Type 0

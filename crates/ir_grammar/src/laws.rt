@@ -1,4 +1,4 @@
-ghost use Rattle.std.specs.Prelude.{◌≡◌, ℕ, List, [], ◌∷◌, ◌++◌, Ok, Err};
+ghost use Rattle.std.specs.Prelude.{◌≡◌, ◌<◌, ℕ, All, List, [], ◌∷◌, ◌++◌, Ok, Err};
 ghost use Rattle.ir_lexer.specs.declared.table.Spot.{Spot};
 ghost use Rattle.ir_core.specs.declared.module.Module as modules;
 ghost use Rattle.ir_grammar.specs.declared.which.Which.{Which};
@@ -6,7 +6,7 @@ ghost use Rattle.ir_grammar.specs.Names.{Names};
 ghost use Rattle.ir_grammar.specs.Pieces.{Piece, Is, pieces};
 ghost use Rattle.ir_grammar.specs.Forms.{Left, Fault, Refused, Exceeds};
 ghost use Rattle.ir_grammar.specs.Tokens.{unlimited};
-ghost use Rattle.ir_grammar.specs.Reading.{ReadsPieces, Reads, ReadsWithinLimits, IsFront, FirstRefused, ExceedsAt, read};
+ghost use Rattle.ir_grammar.specs.Reading.{ReadsPieces, Reads, ReadsWithinLimits, IsReadable, IsFront, FirstRefused, ExceedsAt, read};
 
 /// A text is that of one module at most, with limits and without them.
 pub fn a_text_has_one_module()
@@ -24,6 +24,11 @@ pub fn a_text_is_read_exactly()
 pub fn limits_leave_the_module()
     ensures lifted { (bytes : List ℕ) (m : modules.Module) → ReadsWithinLimits bytes m → Reads bytes m }
     ensures levels { (bytes : List ℕ) (n : ℕ) (m : modules.Module) → ReadsPieces (unlimited n) (pieces bytes) m → Reads bytes m }
+{}
+
+/// A text of bytes that is read is that of a readable module.
+pub fn a_read_module_is_readable()
+    ensures { (bytes : List ℕ) (m : modules.Module) → All (λ b. b < 256) bytes → ReadsWithinLimits bytes m → IsReadable m }
 {}
 
 /// What is refused is the first piece with which no accepted text goes on, whatever the limits. A text has one such piece

@@ -1,5 +1,4 @@
 pub mod WordLists
-pub mod Stream
 pub mod Numbered
 pub mod Many
 pub mod TypesRead

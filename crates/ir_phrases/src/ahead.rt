@@ -17,7 +17,7 @@ pub enum Ahead {
 }
 
 /// What the lexer gives next.
-#[tactic(auto, using(crate::proofs::Stream::pieces_step))]
+#[tactic(auto, using(ir_grammar::proofs::Stream::pieces_step))]
 pub fn next_ahead(lexer: &mut Lexer<'_>, alloc: Global) -> Result<Ahead, ReadFault>
     ensures ahead { IfOk result (λ a. pieces_of lexer.old ≡ with_ahead a (pieces_of lexer.new)) }
     ensures err { IfErr result (λ e. e ≡ faults.NoMemory) }

@@ -1,38 +1,12 @@
 -- The pieces of a text are what the lexer gives, one after another.
-use Rattle.std.proofs.Common.{◌≡◌, ℕ, zero, suc, ◌+◌, ◌<◌, Bool, true, false, List, [], ◌∷◌, ◌++◌, length, Result, Ok, Err, refl, ap, ◌∙◌, arith}
+use Rattle.std.proofs.Common.{◌≡◌, ℕ, zero, suc, ◌+◌, ◌<◌, Bool, true, false, List, [], ◌∷◌, length, Result, Ok, Err, refl, ap, arith}
 use Rattle.std.specs.Prelude.{if◌then◌else◌}
-use Rattle.std.proofs.lemmas.List.{length-append}
 use Rattle.oi_base.specs.declared.ids.Place.{Place}
 use Rattle.ir_lexer.specs.declared.fault.LexFault.{LexFault}
 use Rattle.ir_lexer.specs.declared.table.Token.{Token}
-use Rattle.ir_lexer.specs.declared.table.Token.TheVariants as tokens
-use Rattle.ir_lexer.specs.Spellings.{Spells}
 use Rattle.ir_lexer.specs.Lexing.{Unread, next_token, is_end}
-use Rattle.ir_lexer.proofs.Behind.{in_parts}
 use Rattle.ir_grammar.specs.Pieces.{Piece, Is, then_more, pieces_at, pieces_of}
-
-not_empty : (bs : List ℕ) (b : ℕ) (rest : List ℕ) → bs ≡ b ∷ rest → 0 < length bs
-not_empty bs b rest e = omega (arith, ap length e)
-
--- a token but the end takes a byte
-spelled : (t : Token) (bs : List ℕ) → Spells t bs → is_end t ≡ false → 0 < length bs
-spelled (tokens.Int n) bs h e = h.0.0
-spelled (tokens.Word n) bs h e = h.0.0
-spelled (tokens.Label n) bs h e = omega (arith, ap length h.1 ∙ length-append h.0 (58 ∷ []))
-spelled (tokens.Local n) bs h e = not_empty bs 37 h.0 h.1
-spelled (tokens.Global n) bs h e = not_empty bs 64 h.0 h.1
-spelled (tokens.Str n) bs h e = not_empty bs 34 _ h.1
-spelled (tokens.CStr n) bs h e = not_empty bs 99 h.0 h.1
-spelled (tokens.Meta n) bs h e = not_empty bs 33 n h.0
-spelled (tokens.Hash n) bs h e = not_empty bs 35 n h.0
-spelled (tokens.Sign n) bs h e = not_empty bs n [] h.0
-spelled tokens.End bs h e = absurd cc
-
-fewer : (u v : Unread) (t : Token) (p : Place) → next_token u ≡ Ok ((t, p), v) → is_end t ≡ false → length v.bytes < length u.bytes
-fewer u v t p e more =
-    let h = in_parts u v t p e in
-    let some = spelled t h.1 h.3 more in
-    omega (arith, ap length h.2 ∙ length-append h.0 (h.1 ++ v.bytes), length-append h.1 v.bytes)
+use Rattle.ir_grammar.proofs.Ends.{fewer}
 
 same_more : (t : Token) (p : Place) (xs ys : List Piece) → (is_end t ≡ false → xs ≡ ys) → Is (record { token = t; place = p }) ∷ (if is_end t then [] else xs) ≡ Is (record { token = t; place = p }) ∷ (if is_end t then [] else ys)
 same_more t p xs ys h = at (is_end t) h
