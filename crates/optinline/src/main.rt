@@ -10,6 +10,8 @@ mod executable;
 mod faults;
 mod laws;
 mod one_block;
+#[cfg(test)]
+mod printer_tests;
 mod reply;
 #[cfg(test)]
 mod tests;

@@ -194,7 +194,7 @@ define i32 @f() {~  ret i32 %x~}~define i32 @main() {~  ret i32 7~}~target datal
 define i32 @main() {~  %a = add i32 %b, 1~  ret i1 %a~}~define i32 @f() {~  %a = add i32 1, 1~  %a = add i32 1, 1~  ret i32 7~}\t4 module 2:3 rule 10";
 
 /// The bytes of a text whose lines end in `~`.
-fn lines_of(alloc: Global, text: &str) -> Result<Vec<u8>, Fail> {
+pub fn lines_of(alloc: Global, text: &str) -> Result<Vec<u8>, Fail> {
     let mut bytes = Vec::new(alloc);
     for byte in text.as_bytes() {
         bytes.push(if *byte == b'~' { b'\n' } else { *byte })?;
