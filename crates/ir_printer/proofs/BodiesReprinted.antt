@@ -31,7 +31,7 @@ use Rattle.ir_printer.proofs.ValuesReprinted.{prints_value}
 use Rattle.ir_printer.proofs.QuietForms.{quiet_notes}
 use Rattle.ir_printer.proofs.BlocksBehind.{noted_value, behind_is}
 use Rattle.ir_printer.proofs.BlocksReprinted.{lines_image, IsPrintedBlock, block_printed}
-use Rattle.ir_printer.proofs.PrintedForms.{is_bare, with_block, printed_block, printed_value, printed_next, printed_blocks, PrintsLines, PrintsCode, PrintsBody}
+use Rattle.ir_printer.proofs.PrintedForms.{is_bare, with_block, printed_block, printed_value, printed_next, printed_blocks, PrintsCode, PrintsBody}
 use Rattle.ir_printer.proofs.RoundsReprinted.{flat_more}
 
 -- one more part
@@ -217,5 +217,5 @@ module _ (n : Tables) (i : IndexedTables n) (k : ℕ) (code_in : PrintsCode n k)
   unfolding body
   prints_whole = as_next (prints_expect (sign 123) (marks.Spaced signs.OpenCurly) (tokens.Sign 123) refl tt refl refl) (λ (o : Unit {0}). prints_behind)
 
-pub prints_body : {n : Tables} → IndexedTables n → (k : ℕ) → PrintsLines n k → PrintsCode n k → PrintsBody n k
-prints_body {n = n} i k lines_in code_in = prints_whole n i k code_in
+pub prints_body : {n : Tables} → IndexedTables n → (k : ℕ) → PrintsCode n k → PrintsBody n k
+prints_body {n = n} i k code_in = prints_whole n i k code_in

@@ -83,15 +83,6 @@ as_of from p = record {
   prints = λ s u a t r front sound. p.prints s u a t (from s u a t r) front sound;
 }
 
--- the marks of the part alone
-pub as_alone : {A B : Type 0} {inside : Bool} {n : Tables} {image : A → B} {f : Form A} {g : Form B} {before : List Mark} {mine all : B → List Mark} →
-    PrintsAs inside n image f g [] mine → ((b : B) → all b ≡ before ++ mine b) → PrintsAs inside n image f g before all
-as_alone {image = image} {before = before} h e = record {
-  indexed = h.indexed;
-  fronts = h.fronts;
-  prints = λ s u a t r front sound. (let m = h.prints s u a t r front sound in (m.0, e (image a) ∙ ap (λ (ms : List Mark). before ++ ms) m.1, m.2));
-}
-
 -- ---- one or another
 
 pub as_cases : {A B : Type 0} {inside : Bool} {n : Tables} {image : A → B} {f g : Form A} {h : Form B} {before : List Mark} {all : B → List Mark} (z : Set) →
