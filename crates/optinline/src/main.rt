@@ -16,6 +16,8 @@ mod reply;
 #[cfg(test)]
 mod tests;
 mod unbuilt;
+#[cfg(test)]
+mod verifier_tests;
 mod words;
 
 use command::tool;
