@@ -22,4 +22,3 @@ mod ValueLaws
 mod VerdictLaws
 mod VerdictTold
 pub mod VerdictDecided
-mod PlainLaws

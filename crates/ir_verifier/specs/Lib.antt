@@ -4,4 +4,3 @@ pub mod TypeFaults
 pub mod PhiFaults
 pub mod Forms
 pub mod Verdict
-pub mod Plain

@@ -14,8 +14,6 @@ mod meanings;
 mod names;
 mod offsets;
 mod phis;
-#[cfg(test)]
-mod plain;
 mod positions;
 mod predecessors;
 mod references;
@@ -26,8 +24,6 @@ mod scope;
 #[cfg(test)]
 mod tests;
 mod types;
-#[cfg(test)]
-mod verdict_tests;
 mod verifying;
 
 pub use fault::RuleFault;

@@ -535,7 +535,7 @@ fn block(alloc: Global, text: &str, label: LocalId, next: &mut Next) -> Result<B
     })
 }
 
-pub fn function(alloc: Global, text: &str) -> Result<Func, NoMemory> {
+fn function(alloc: Global, text: &str) -> Result<Func, NoMemory> {
     let (letters, rest) = text.split_once(':').unwrap_or(("", ""));
     let (result, body) = rest.split_once(':').unwrap_or(("", ""));
     let params = params(alloc, letters)?;

@@ -1,7 +1,0 @@
-use Rattle.std.proofs.Common.{◌≡◌, drop}
-use Rattle.std.specs.List.{list_all}
-use Rattle.ir_verifier.specs.Plain.{is_plain_entry}
-use Rattle.ir_verifier.proofs.plain.are_plain_entries.Given as goal
-
-abbrev pub invariant-loop-entry : goal.invariant-loop-entry
-invariant-loop-entry l = list_all (is_plain_entry l.count) (drop l.entry-index l.entries) ≡ list_all (is_plain_entry l.count) l.entries
