@@ -1,8 +1,9 @@
--- What a reading keeps. Where a form is read the lists of names only grow, no name stands twice in one, each symbol is
+-- What a reading keeps. Where a form is read names are only put behind those that are there, no name stands twice in one, each symbol is
 -- proper, and what is read is right in view of all names that there are in the end. Each way of making forms keeps this.
-use Rattle.std.proofs.Common.{◌≡◌, ◌≢◌, inl, inr, ℕ, ◌≤◌, zero, suc, Bool, true, false, List, [], ◌∷◌, ◌++◌, length, refl, sym, ap, subst, arith}
+use Rattle.std.proofs.Common.{◌≡◌, ◌≢◌, inl, inr, ℕ, ◌≤◌, zero, suc, Bool, true, false, List, [], ◌∷◌, ◌++◌, length, refl, sym, ap, ◌∙◌, subst, arith}
 use Rattle.std.specs.Prelude.{⊤}
 use Rattle.std.specs.List.{AllByRecursion as Each}
+use Rattle.std.proofs.lemmas.List.{append_assoc, append-nil, length-append}
 use Rattle.oi_base.specs.declared.ids.Place.{Place}
 use Rattle.ir_lexer.specs.declared.table.Token.{Token}
 use Rattle.ir_lexer.specs.declared.table.Token.TheVariants as tokens
@@ -57,30 +58,43 @@ pub record Fine (s : Names) : Type 0 where
   pub locals : Once s.locals
   pub clean : Each IsClean s.symbols
 
+-- these names begin a list of names
+abbrev pub Begins : List (List ℕ) → List (List ℕ) → Type 0
+Begins all names = (rest : List (List ℕ)) × (names ++ rest ≡ all)
+
+pub begins_same : (xs : List (List ℕ)) → Begins xs xs
+begins_same xs = ([], append-nil xs)
+
+pub begins_then : (xs ys zs : List (List ℕ)) → Begins ys xs → Begins zs ys → Begins zs xs
+begins_then xs ys zs h k = (h.0 ++ k.0, sym (append_assoc xs h.0 k.0) ∙ ap (λ (vs : List (List ℕ)). vs ++ k.0) h.1 ∙ k.1)
+
+pub begins_length : (xs ys : List (List ℕ)) → Begins ys xs → length xs ≤ length ys
+begins_length xs ys h = let e = length-append xs h.0 in let same = ap (λ (vs : List (List ℕ)). length vs) h.1 in omega (arith, e, same)
+
 -- where this is so, locals count
 abbrev pub LocalsGrow : Bool → Names → Names → Type 0
-LocalsGrow true s t = length s.locals ≤ length t.locals
+LocalsGrow true s t = Begins t.locals s.locals
 LocalsGrow false s t = ⊤
 
--- there are as many names or more
+-- the names of the one begin those of the other
 pub record Grows (b : Bool) (s t : Names) : Type 0 where
-  pub symbols : length s.symbols ≤ length t.symbols
-  pub types : length s.types ≤ length t.types
+  pub symbols : Begins t.symbols s.symbols
+  pub types : Begins t.types s.types
   pub locals : LocalsGrow b s t
 
 locals_same : (b : Bool) (s : Names) → LocalsGrow b s s
-locals_same true s = omega arith
+locals_same true s = begins_same s.locals
 locals_same false s = tt
 
 pub grows_same : (b : Bool) (s : Names) → Grows b s s
-grows_same b s = record { symbols = omega arith; types = omega arith; locals = locals_same b s }
+grows_same b s = record { symbols = begins_same s.symbols; types = begins_same s.types; locals = locals_same b s }
 
 locals_then : (b : Bool) (r s t : Names) → LocalsGrow b r s → LocalsGrow b s t → LocalsGrow b r t
-locals_then true r s t h k = omega (arith, h, k)
+locals_then true r s t h k = begins_then r.locals s.locals t.locals h k
 locals_then false r s t h k = tt
 
 pub grows_then : (b : Bool) (r s t : Names) → Grows b r s → Grows b s t → Grows b r t
-grows_then b r s t h k = record { symbols = omega (arith, h.symbols, k.symbols); types = omega (arith, h.types, k.types); locals = locals_then b r s t h.locals k.locals }
+grows_then b r s t h k = record { symbols = begins_then r.symbols s.symbols t.symbols h.symbols k.symbols; types = begins_then r.types s.types t.types h.types k.types; locals = locals_then b r s t h.locals k.locals }
 
 -- Given H the form keeps the names, and what it reads is P, where n has all names that there are in the end
 pub record Keeps {A : Type 0} (b : Bool) (n : Names) (H : Type 0) (f : Form A) (P : A → Type 0) : Type 0 where

@@ -1,8 +1,8 @@
 -- Calls without a name keep the names. A skipped call takes the type names back that it brought in.
-use Rattle.std.proofs.Common.{◌≡◌, ◌≢◌, ℕ, zero, suc, Bool, true, false, List, [], ◌∷◌, length, take, refl, sym, ap, ◌∙◌, subst, arith}
+use Rattle.std.proofs.Common.{◌≡◌, ◌≢◌, ℕ, zero, suc, Bool, true, false, List, [], ◌∷◌, length, take, refl, sym, ap, ◌∙◌, subst}
 use Rattle.std.specs.Prelude.{Option, Some, None}
 use Rattle.std.specs.List.{AllByRecursion as Each}
-use Rattle.std.proofs.lemmas.List.{length-take}
+use Rattle.std.proofs.lemmas.List.{append-nil, take_at}
 use Rattle.ir_core.specs.declared.ty.IrType.{IrType, Void, Int, Ptr, Array', Struct', Named}
 use Rattle.ir_core.specs.declared.module.SymId.{SymId}
 use Rattle.ir_core.specs.declared.op.LocalId.{LocalId}
@@ -13,7 +13,7 @@ use Rattle.ir_grammar.specs.declared.kinds.Kind.TheVariants as kinds
 use Rattle.ir_grammar.specs.Pieces.{Piece}
 use Rattle.ir_grammar.specs.Names.{Names, define_next}
 use Rattle.ir_grammar.specs.Forms.{Form, act, ret, ◌>>=◌, choose}
-use Rattle.ir_grammar.specs.Tokens.{stated, text}
+use Rattle.ir_grammar.specs.Tokens.{Limits, text}
 use Rattle.ir_grammar.specs.Types.{type_form}
 use Rattle.ir_grammar.specs.Groups.{group}
 use Rattle.ir_grammar.specs.Operations.{call_end, is_lifetime, Line, result_of, called, keep_types, lifetime, types_so_far, unnamed_call}
@@ -50,18 +50,18 @@ result_right n (Array' m j items) s w k = some_right n (Array' m j items) s w k 
 result_right n (Struct' m fields) s w k = some_right n (Struct' m fields) s w k tt
 result_right n (Named y) s w k = some_right n (Named y) s w k tt
 
-keeps_called : {n : Names} {H : Type 0} (t : IrType) (name : List ℕ) → (H → GoodType n t × IsClean name) → Keeps true n H (called stated t name) (IfAny (GoodLine n))
+keeps_called : {n : Names} {H : Type 0} (l : Limits) (t : IrType) (name : List ℕ) → (H → GoodType n t × IsClean name) → Keeps true n H (called l t name) (IfAny (GoodLine l n))
 unfolding called
-keeps_called {n = n} t name e =
+keeps_called {n = n} l t name e =
     keeps_then (keeps_symbol name (λ g. (e g).1)) (λ (f : SymId). keeps_then (keeps_act {P = GoodResult n t} (result_of t) (result_grows t) (λ g s w k. result_right n t s w k)) (λ (r : Option LocalId).
-    keeps_then keeps_arguments (λ (as' : List TypedOperand). keeps_ret (Some (r, ops.Call t f as'))
-    (λ g. record { op = good_call n t f as' (e g.1.1.1).0 g.1.1.0 g.0.0 g.0.1; known = g.1.0.0; result = g.1.0.1 f as' }))))
+    keeps_then (keeps_arguments l) (λ (as' : List TypedOperand). keeps_ret (Some (r, ops.Call t f as'))
+    (λ g. record { op = good_call l n t f as' (e g.1.1.1).0 g.1.1.0 g.0.0 g.0.1; known = g.1.0.0; result = g.1.0.1 f as' }))))
 
 -- with what stands behind it
 abbrev Closed : Form Line → Form Line
 Closed f = f >>= λ r. call_end >>= λ e. ret r
 
-keeps_closed : {n : Names} {H : Type 0} {f : Form Line} → Keeps true n H f (IfAny (GoodLine n)) → Keeps true n H (Closed f) (IfAny (GoodLine n))
+keeps_closed : {l : Limits} {n : Names} {H : Type 0} {f : Form Line} → Keeps true n H f (IfAny (GoodLine l n)) → Keeps true n H (Closed f) (IfAny (GoodLine l n))
 keeps_closed h = keeps_then h (λ (r : Line). keeps_then keeps_call_end (λ (e : Unit). keeps_ret r (λ g. g.1.0)))
 
 -- ---- a call that is skipped
@@ -106,7 +106,7 @@ fine_take : (k : ℕ) (s : Names) → Fine s → Fine (record s { types = take k
 fine_take k s w = record { symbols = w.symbols; types = once_take k s.types w.types; locals = w.locals; clean = w.clean }
 
 grows_take : (s t : Names) → Grows true s t → Grows true s (record t { types = take (length s.types) t.types })
-grows_take s t h = let e = length-take (length s.types) t.types in record { symbols = h.symbols; types = omega (arith, e, h.types); locals = h.locals }
+grows_take s t h = record { symbols = h.symbols; types = ([], append-nil s.types ∙ sym (take_at s.types h.types.0 (length s.types) refl) ∙ ap (λ (xs : List (List ℕ)). take (length s.types) xs) h.types.1); locals = h.locals }
 
 skipped_grows : (s0 s : Names) → Grows true s0 s → (u : List Piece) (r : Line) (t : Names) → (lifetime (length s0.types)).reads s u r t → Grows true s0 t
 skipped_grows s0 s h u r t e =
@@ -124,78 +124,78 @@ skipped_fine k s u r t c w e =
 abbrev End : Line → Form Line
 End r = call_end >>= λ e. ret r
 
-keeps_end : {n : Names} {H : Type 0} (r : Line) → (H → IfAny (GoodLine n) r) → Keeps true n H (End r) (IfAny (GoodLine n))
+keeps_end : {l : Limits} {n : Names} {H : Type 0} (r : Line) → (H → IfAny (GoodLine l n) r) → Keeps true n H (End r) (IfAny (GoodLine l n))
 keeps_end r h = keeps_then keeps_call_end (λ (e : Unit). keeps_ret r (λ g. h g.1))
 
-abbrev Chosen : Bool → ℕ → IrType → List ℕ → Form Line
-Chosen c k ty name = Closed (choose c (lifetime k) (called stated ty name))
+abbrev Chosen : Limits → Bool → ℕ → IrType → List ℕ → Form Line
+Chosen l c k ty name = Closed (choose c (lifetime k) (called l ty name))
 
-called_closed : (n : Names) (ty : IrType) (name : List ℕ) → Keeps true n (GoodType n ty × IsClean name) (Closed (called stated ty name)) (IfAny (GoodLine n))
-called_closed n ty name = keeps_closed (keeps_called ty name (λ g. g))
+called_closed : (l : Limits) (n : Names) (ty : IrType) (name : List ℕ) → Keeps true n (GoodType n ty × IsClean name) (Closed (called l ty name)) (IfAny (GoodLine l n))
+called_closed l n ty name = keeps_closed (keeps_called l ty name (λ g. g))
 
-chosen_grows : (c : Bool) (ty : IrType) (name : List ℕ) (s0 s : Names) (u : List Piece) (x : Line) (t : Names) → Grows true s0 s → (Chosen c (length s0.types) ty name).reads s u x t → Grows true s0 t
-chosen_grows true ty name s0 s u x t h r =
-    grows_then true s0 r.1 t (skipped_grows s0 s h r.2 r.0 r.1 r.5) ((keeps_end {n = t} {H = IfAny (GoodLine t) r.0} r.0 (λ g. g)).grows r.1 r.3 x t r.6)
-chosen_grows false ty name s0 s u x t h r = grows_then true s0 s t h ((called_closed t ty name).grows s u x t r)
+chosen_grows : (l : Limits) (c : Bool) (ty : IrType) (name : List ℕ) (s0 s : Names) (u : List Piece) (x : Line) (t : Names) → Grows true s0 s → (Chosen l c (length s0.types) ty name).reads s u x t → Grows true s0 t
+chosen_grows l true ty name s0 s u x t h r =
+    grows_then true s0 r.1 t (skipped_grows s0 s h r.2 r.0 r.1 r.5) ((keeps_end {l = l} {n = t} {H = IfAny (GoodLine l t) r.0} r.0 (λ g. g)).grows r.1 r.3 x t r.6)
+chosen_grows l false ty name s0 s u x t h r = grows_then true s0 s t h ((called_closed l t ty name).grows s u x t r)
 
-none_good : (n : Names) (r : Line) → r ≡ None → IfAny (GoodLine n) r
-none_good n r e = subst (IfAny (GoodLine n)) (sym e) tt
+none_good : (l : Limits) (n : Names) (r : Line) → r ≡ None → IfAny (GoodLine l n) r
+none_good l n r e = subst (IfAny (GoodLine l n)) (sym e) tt
 
-chosen_holds : (c : Bool) (n : Names) (k : ℕ) (ty : IrType) (name : List ℕ) (s : Names) (u : List Piece) (x : Line) (t : Names) → Clean u → Fine s → (Grows true s n → GoodType n ty × IsClean name) → (Chosen c k ty name).reads s u x t → Grows true t n → IfAny (GoodLine n) x × Fine t
-chosen_holds true n k ty name s u x t c w e r g =
+chosen_holds : (l : Limits) (c : Bool) (n : Names) (k : ℕ) (ty : IrType) (name : List ℕ) (s : Names) (u : List Piece) (x : Line) (t : Names) → Clean u → Fine s → (Grows true s n → GoodType n ty × IsClean name) → (Chosen l c k ty name).reads s u x t → Grows true t n → IfAny (GoodLine l n) x × Fine t
+chosen_holds l true n k ty name s u x t c w e r g =
     let clean = subst Clean r.4 c in
-    (keeps_end {n = n} {H = IfAny (GoodLine n) r.0} r.0 (λ h. h)).holds (none_good n r.0 (skipped k s r.2 r.0 r.1 r.5).nothing) r.1 r.3 x t (each_back CleanPiece r.2 r.3 clean) (skipped_fine k s r.2 r.0 r.1 (each_front CleanPiece r.2 r.3 clean) w r.5) r.6 g
-chosen_holds false n k ty name s u x t c w e r g =
-    let all = called_closed n ty name in
+    (keeps_end {l = l} {n = n} {H = IfAny (GoodLine l n) r.0} r.0 (λ h. h)).holds (none_good l n r.0 (skipped k s r.2 r.0 r.1 r.5).nothing) r.1 r.3 x t (each_back CleanPiece r.2 r.3 clean) (skipped_fine k s r.2 r.0 r.1 (each_front CleanPiece r.2 r.3 clean) w r.5) r.6 g
+chosen_holds l false n k ty name s u x t c w e r g =
+    let all = called_closed l n ty name in
     all.holds (e (grows_then true s t n (all.grows s u x t r) g)) s u x t c w r g
 
-abbrev Named_type : ℕ → IrType → Form Line
-Named_type k ty = text kinds.Global >>= λ name. Chosen (is_lifetime name) k ty name
+abbrev Named_type : Limits → ℕ → IrType → Form Line
+Named_type l k ty = text kinds.Global >>= λ name. Chosen l (is_lifetime name) k ty name
 
-abbrev Typed : ℕ → Form Line
-Typed k = type_form stated >>= λ ty. Named_type k ty
+abbrev Typed : Limits → ℕ → Form Line
+Typed l k = type_form l >>= λ ty. Named_type l k ty
 
-type_keeps : (n : Names) → Keeps true n (Unit {0}) (type_form stated) (GoodType n)
-type_keeps n = keeps_type stated
+type_keeps : (l : Limits) (n : Names) → Keeps true n (Unit {0}) (type_form l) (GoodType n)
+type_keeps l n = keeps_type l
 
 text_keeps : (n : Names) → Keeps true n (Unit {0}) (text kinds.Global) IsClean
 text_keeps n = keeps_global_text
 
-named_grows : (ty : IrType) (s0 s : Names) (u : List Piece) (x : Line) (t : Names) → Grows true s0 s → (Named_type (length s0.types) ty).reads s u x t → Grows true s0 t
-named_grows ty s0 s u x t h r = chosen_grows (is_lifetime r.0) ty r.0 s0 r.1 r.3 x t (grows_then true s0 s r.1 h ((text_keeps s).grows s r.2 r.0 r.1 r.5)) r.6
+named_grows : (l : Limits) (ty : IrType) (s0 s : Names) (u : List Piece) (x : Line) (t : Names) → Grows true s0 s → (Named_type l (length s0.types) ty).reads s u x t → Grows true s0 t
+named_grows l ty s0 s u x t h r = chosen_grows l (is_lifetime r.0) ty r.0 s0 r.1 r.3 x t (grows_then true s0 s r.1 h ((text_keeps s).grows s r.2 r.0 r.1 r.5)) r.6
 
-typed_grows : (s : Names) (u : List Piece) (x : Line) (t : Names) → (Typed (length s.types)).reads s u x t → Grows true s t
-typed_grows s u x t r = named_grows r.0 s r.1 r.3 x t ((type_keeps s).grows s r.2 r.0 r.1 r.5) r.6
+typed_grows : (l : Limits) (s : Names) (u : List Piece) (x : Line) (t : Names) → (Typed l (length s.types)).reads s u x t → Grows true s t
+typed_grows l s u x t r = named_grows l r.0 s r.1 r.3 x t ((type_keeps l s).grows s r.2 r.0 r.1 r.5) r.6
 
-named_holds : (n : Names) (k : ℕ) (ty : IrType) (s : Names) (u : List Piece) (x : Line) (t : Names) → Clean u → Fine s → (Grows true s n → GoodType n ty) → (Named_type k ty).reads s u x t → Grows true t n → IfAny (GoodLine n) x × Fine t
-named_holds n k ty s u x t c w e r g =
+named_holds : (l : Limits) (n : Names) (k : ℕ) (ty : IrType) (s : Names) (u : List Piece) (x : Line) (t : Names) → Clean u → Fine s → (Grows true s n → GoodType n ty) → (Named_type l k ty).reads s u x t → Grows true t n → IfAny (GoodLine l n) x × Fine t
+named_holds l n k ty s u x t c w e r g =
     let clean = subst Clean r.4 c in
     let front = each_front CleanPiece r.2 r.3 clean in
     let more = (text_keeps r.1).grows s r.2 r.0 r.1 r.5 in
     let name = (text_keeps r.1).holds tt s r.2 r.0 r.1 front w r.5 (grows_same true r.1) in
-    chosen_holds (is_lifetime r.0) n k ty r.0 r.1 r.3 x t (each_back CleanPiece r.2 r.3 clean) name.1 (λ h. (e (grows_then true s r.1 n more h), name.0)) r.6 g
+    chosen_holds l (is_lifetime r.0) n k ty r.0 r.1 r.3 x t (each_back CleanPiece r.2 r.3 clean) name.1 (λ h. (e (grows_then true s r.1 n more h), name.0)) r.6 g
 
-typed_holds : (n : Names) (k : ℕ) (s : Names) (u : List Piece) (x : Line) (t : Names) → Clean u → Fine s → (Typed k).reads s u x t → Grows true t n → IfAny (GoodLine n) x × Fine t
-typed_holds n k s u x t c w r g =
+typed_holds : (l : Limits) (n : Names) (k : ℕ) (s : Names) (u : List Piece) (x : Line) (t : Names) → Clean u → Fine s → (Typed l k).reads s u x t → Grows true t n → IfAny (GoodLine l n) x × Fine t
+typed_holds l n k s u x t c w r g =
     let clean = subst Clean r.4 c in
     let front = each_front CleanPiece r.2 r.3 clean in
-    let fine = (type_keeps r.1).holds tt s r.2 r.0 r.1 front w r.5 (grows_same true r.1) in
-    named_holds n k r.0 r.1 r.3 x t (each_back CleanPiece r.2 r.3 clean) fine.1 (λ h. ((type_keeps n).holds tt s r.2 r.0 r.1 front w r.5 h).0) r.6 g
+    let fine = (type_keeps l r.1).holds tt s r.2 r.0 r.1 front w r.5 (grows_same true r.1) in
+    named_holds l n k r.0 r.1 r.3 x t (each_back CleanPiece r.2 r.3 clean) fine.1 (λ h. ((type_keeps l n).holds tt s r.2 r.0 r.1 front w r.5 h).0) r.6 g
 
 -- with the number of type names before it
-abbrev Counted : Form Line
-Counted = act types_so_far >>= λ k. Typed k
+abbrev Counted : Limits → Form Line
+Counted l = act types_so_far >>= λ k. Typed l k
 
-counted_typed : (s : Names) (u : List Piece) (x : Line) (t : Names) → Counted.reads s u x t → (v : List Piece) × (Clean u → Clean v) × (Typed (length s.types)).reads s v x t
-counted_typed s u x t r =
-    (r.3, λ c. each_back CleanPiece r.2 r.3 (subst Clean r.4 c), subst (λ (p : ℕ × Names). (Typed p.0).reads p.1 r.3 x t) (sym r.5.1) r.6)
+counted_typed : (l : Limits) (s : Names) (u : List Piece) (x : Line) (t : Names) → (Counted l).reads s u x t → (v : List Piece) × (Clean u → Clean v) × (Typed l (length s.types)).reads s v x t
+counted_typed l s u x t r =
+    (r.3, λ c. each_back CleanPiece r.2 r.3 (subst Clean r.4 c), subst (λ (p : ℕ × Names). (Typed l p.0).reads p.1 r.3 x t) (sym r.5.1) r.6)
 
-keeps_counted : {n : Names} {H : Type 0} → Keeps true n H Counted (IfAny (GoodLine n))
-keeps_counted {n = n} = record {
-  grows = λ s u x t r. let y = counted_typed s u x t r in typed_grows s y.0 x t y.2;
-  holds = λ g s u x t c w r k. let y = counted_typed s u x t r in typed_holds n (length s.types) s y.0 x t (y.1 c) w y.2 k;
+keeps_counted : {n : Names} {H : Type 0} (l : Limits) → Keeps true n H (Counted l) (IfAny (GoodLine l n))
+keeps_counted {n = n} l = record {
+  grows = λ s u x t r. let y = counted_typed l s u x t r in typed_grows l s y.0 x t y.2;
+  holds = λ g s u x t c w r k. let y = counted_typed l s u x t r in typed_holds l n (length s.types) s y.0 x t (y.1 c) w y.2 k;
 }
 
-pub keeps_unnamed_call : {n : Names} {H : Type 0} → Keeps true n H (unnamed_call stated) (IfAny (GoodLine n))
+pub keeps_unnamed_call : {n : Names} {H : Type 0} (l : Limits) → Keeps true n H (unnamed_call l) (IfAny (GoodLine l n))
 unfolding unnamed_call
-keeps_unnamed_call = keeps_then keeps_call_head (λ (h : Unit). keeps_counted)
+keeps_unnamed_call l = keeps_then keeps_call_head (λ (h : Unit). keeps_counted l)

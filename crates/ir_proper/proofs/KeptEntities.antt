@@ -132,7 +132,7 @@ keeps_other_entity : {n : Names} {H : Type 0} (k : ℕ) → Keeps false n H (oth
 unfolding other_entity
 keeps_other_entity {n = n} k =
     keeps_either source_word (keeps_source k) (keeps_either target_word (keeps_target k) (keeps_either attributes_word (keeps_attributes k)
-    (keeps_either (kind kinds.Local) (keeps_type_def k) (keeps_either (kind kinds.Global) (keeps_global_var k) (keeps_either define_word (keeps_more (keeps_definition k) (λ h e g. define_entity n k e g)) (keeps_declaration k))))))
+    (keeps_either (kind kinds.Local) (keeps_type_def k) (keeps_either (kind kinds.Global) (keeps_global_var k) (keeps_either define_word (keeps_more (keeps_definition stated k) (λ h e g. define_entity n k e (g refl))) (keeps_declaration k))))))
 
 keeps_entity : {n : Names} {H : Type 0} (k : ℕ) → Keeps false n H (entity stated k) (GoodEntity n k)
 unfolding entity

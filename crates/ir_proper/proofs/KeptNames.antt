@@ -1,10 +1,10 @@
 -- What becomes of the names where one appears.
-use Rattle.std.proofs.Common.{◌≡◌, ◌≢◌, ℕ, ◌≤◌, ◌<◌, ◌+◌, Bool, true, false, cond, List, [], ◌∷◌, ◌++◌, length, refl, ap, arith}
+use Rattle.std.proofs.Common.{◌≡◌, ◌≢◌, ℕ, ◌<◌, ◌+◌, Bool, true, false, cond, List, [], ◌∷◌, ◌++◌, length, refl, ◌∙◌, arith}
 use Rattle.std.specs.Prelude.{Option, Some, None, position, nat_lt, not}
 use Rattle.std.specs.List.{position_or_len, AllByRecursion as Each}
 use Rattle.std.specs.Str.{bytes_eq}
 use Rattle.std.proofs.lemmas.Bool.Decides.{nat_tests}
-use Rattle.std.proofs.lemmas.List.{length-append}
+use Rattle.std.proofs.lemmas.List.{append-nil, length-append}
 use Rattle.std.proofs.lemmas.Slice.Eq.{bytes_eq-Decides}
 use Rattle.std.specs.Fmt.{decimal}
 use Rattle.ir_core.specs.declared.module.SymId.{SymId}
@@ -12,13 +12,17 @@ use Rattle.ir_core.specs.declared.ty.TypeName.{TypeName}
 use Rattle.ir_core.specs.declared.op.LocalId.{LocalId}
 use Rattle.ir_grammar.specs.Names.{Names, placed, numbered, symbol, type_name, local, next_behind, define, define_next}
 use Rattle.ir_grammar.specs.Forms.{act}
-use Rattle.ir_proper.proofs.Kept.{each_push, IsClean, Once, Fine, LocalsGrow, Grows, Keeps, keeps_act}
+use Rattle.ir_proper.proofs.Kept.{each_push, IsClean, Once, Fine, Begins, begins_same, begins_length, LocalsGrow, Grows, Keeps, keeps_act}
 
--- the place is within the list that there is then, which is no shorter
-pub placed_within : (o : Option ℕ) (name : List ℕ) (xs : List (List ℕ)) → ((k : ℕ) → o ≡ Some k → k < length xs)
-    → ((placed o name xs).0 < length (placed o name xs).1) × (length xs ≤ length (placed o name xs).1)
-placed_within (Some k) name xs h = (h k refl, omega arith)
-placed_within None name xs h = let e = length-append xs (name ∷ []) in (omega (arith, e), omega (arith, e))
+-- the place is within the list that there is then
+pub placed_within : (o : Option ℕ) (name : List ℕ) (xs : List (List ℕ)) → ((k : ℕ) → o ≡ Some k → k < length xs) → (placed o name xs).0 < length (placed o name xs).1
+placed_within (Some k) name xs h = h k refl
+placed_within None name xs h = let e = length-append xs (name ∷ []) in omega (arith, e)
+
+-- the name is put behind the others, or is there
+placed_begins : (o : Option ℕ) (name : List ℕ) (xs : List (List ℕ)) → Begins (placed o name xs).1 xs
+placed_begins (Some k) name xs = begins_same xs
+placed_begins None name xs = (name ∷ [], refl)
 
 pub placed_clean : (o : Option ℕ) (name : List ℕ) (xs : List (List ℕ)) → Each IsClean xs → IsClean name → Each IsClean (placed o name xs).1
 placed_clean (Some k) name xs h c = h
@@ -68,7 +72,11 @@ position_none name xs e = none_is_it name xs (absent_test (position_or_len (byte
 
 -- ---- a name appears
 
-pub numbered_within : (name : List ℕ) (xs : List (List ℕ)) → ((numbered name xs).0 < length (numbered name xs).1) × (length xs ≤ length (numbered name xs).1)
+pub numbered_begins : (name : List ℕ) (xs : List (List ℕ)) → Begins (numbered name xs).1 xs
+unfolding numbered
+numbered_begins name xs = placed_begins (position (bytes_eq name) xs) name xs
+
+pub numbered_within : (name : List ℕ) (xs : List (List ℕ)) → (numbered name xs).0 < length (numbered name xs).1
 unfolding numbered
 numbered_within name xs = placed_within (position (bytes_eq name) xs) name xs (λ k e. position_within (bytes_eq name) xs k e)
 
@@ -92,44 +100,44 @@ abbrev pub KnownLocal : Names → LocalId → Type 0
 KnownLocal n x = x.0 < length n.locals
 
 pub locals_kept : (b : Bool) (s t : Names) → s.locals ≡ t.locals → LocalsGrow b s t
-locals_kept true s t e = let same = ap (λ (xs : List (List ℕ)). length xs) e in omega (arith, same)
+locals_kept true s t e = ([], append-nil s.locals ∙ e)
 locals_kept false s t e = tt
 
 symbol_grows : (b : Bool) (name : List ℕ) (s : Names) → Grows b s (symbol name s).1
 unfolding symbol
-symbol_grows b name s = record { symbols = (numbered_within name s.symbols).1; types = omega arith; locals = locals_kept b s _ refl }
+symbol_grows b name s = record { symbols = numbered_begins name s.symbols; types = begins_same s.types; locals = locals_kept b s _ refl }
 
 symbol_right : (b : Bool) (n : Names) (name : List ℕ) (s : Names) → IsClean name → Fine s → Grows b (symbol name s).1 n → KnownSymbol n (symbol name s).0 × Fine (symbol name s).1
 unfolding symbol
 symbol_right b n name s c w k =
-    let e = numbered_within name s.symbols in let more = k.symbols in
-    (omega (arith, e.0, more), record { symbols = numbered_once name s.symbols w.symbols; types = w.types; locals = w.locals; clean = numbered_clean name s.symbols w.clean c })
+    let e = numbered_within name s.symbols in let more = begins_length (numbered name s.symbols).1 n.symbols k.symbols in
+    (omega (arith, e, more), record { symbols = numbered_once name s.symbols w.symbols; types = w.types; locals = w.locals; clean = numbered_clean name s.symbols w.clean c })
 
 pub keeps_symbol : {b : Bool} {n : Names} {H : Type 0} (name : List ℕ) → (H → IsClean name) → Keeps b n H (act (symbol name)) (KnownSymbol n)
 keeps_symbol {b = b} {n = n} name c = keeps_act (symbol name) (symbol_grows b name) (λ h s w k. symbol_right b n name s (c h) w k)
 
 pub type_name_grows : (b : Bool) (name : List ℕ) (s : Names) → Grows b s (type_name name s).1
 unfolding type_name
-type_name_grows b name s = record { symbols = omega arith; types = (numbered_within name s.types).1; locals = locals_kept b s _ refl }
+type_name_grows b name s = record { symbols = begins_same s.symbols; types = numbered_begins name s.types; locals = locals_kept b s _ refl }
 
 pub type_name_right : (b : Bool) (n : Names) (name : List ℕ) (s : Names) → Fine s → Grows b (type_name name s).1 n → KnownType n (type_name name s).0 × Fine (type_name name s).1
 unfolding type_name
 type_name_right b n name s w k =
-    let e = numbered_within name s.types in let more = k.types in
-    (omega (arith, e.0, more), record { symbols = w.symbols; types = numbered_once name s.types w.types; locals = w.locals; clean = w.clean })
+    let e = numbered_within name s.types in let more = begins_length (numbered name s.types).1 n.types k.types in
+    (omega (arith, e, more), record { symbols = w.symbols; types = numbered_once name s.types w.types; locals = w.locals; clean = w.clean })
 
 pub keeps_type_name : {b : Bool} {n : Names} {H : Type 0} (name : List ℕ) → Keeps b n H (act (type_name name)) (KnownType n)
 keeps_type_name {b = b} {n = n} name = keeps_act (type_name name) (type_name_grows b name) (λ h s w k. type_name_right b n name s w k)
 
 pub local_grows : (name : List ℕ) (s : Names) → Grows true s (local name s).1
 unfolding local
-local_grows name s = record { symbols = omega arith; types = omega arith; locals = (numbered_within name s.locals).1 }
+local_grows name s = record { symbols = begins_same s.symbols; types = begins_same s.types; locals = numbered_begins name s.locals }
 
 pub local_right : (n : Names) (name : List ℕ) (s : Names) → Fine s → Grows true (local name s).1 n → KnownLocal n (local name s).0 × Fine (local name s).1
 unfolding local
 local_right n name s w k =
-    let e = numbered_within name s.locals in let more = k.locals in
-    (omega (arith, e.0, more), record { symbols = w.symbols; types = w.types; locals = numbered_once name s.locals w.locals; clean = w.clean })
+    let e = numbered_within name s.locals in let more = begins_length (numbered name s.locals).1 n.locals k.locals in
+    (omega (arith, e, more), record { symbols = w.symbols; types = w.types; locals = numbered_once name s.locals w.locals; clean = w.clean })
 
 pub keeps_local : {n : Names} {H : Type 0} (name : List ℕ) → Keeps true n H (act (local name)) (KnownLocal n)
 keeps_local {n = n} name = keeps_act (local name) (local_grows name) (λ h s w k. local_right n name s w k)
