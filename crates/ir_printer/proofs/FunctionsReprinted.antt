@@ -32,6 +32,8 @@ use Rattle.ir_grammar.specs.Attributes.{no_marks, attribute_list, mark_or_note_s
 use Rattle.ir_grammar.specs.Operations.{in_brackets}
 use Rattle.ir_grammar.specs.Bodies.{body}
 use Rattle.ir_grammar.specs.Entities.{param_name, param, without_groups, locals_so_far, define_word, function_of, definition}
+use Rattle.ir_proper.proofs.Kept.{begins_then}
+use Rattle.ir_proper.proofs.KeptDefinitions.{keeps_definition}
 use Rattle.ir_printer.specs.declared.words.Word.TheVariants as words
 use Rattle.ir_printer.specs.declared.marks.Mark.{Mark}
 use Rattle.ir_printer.specs.declared.marks.Mark.TheVariants as marks
@@ -53,7 +55,6 @@ use Rattle.ir_printer.proofs.ValuesReprinted.{prints_global}
 use Rattle.ir_printer.proofs.ArgumentsReprinted.{prints_in_brackets}
 use Rattle.ir_printer.proofs.PrintedForms.{may_stand, printed_param, printed_body, printed_entity, PrintsBody, known, IsEntityReprinted, printed_of, IsReadEntity}
 use Rattle.ir_printer.proofs.DemandsReady.{known_of, ready_fits, ready_locals, fits_ready, known_behind_marks, locals_behind_marks}
-use Rattle.ir_printer.proofs.NamesGrow.{begins_then, Grows, grows_quiet, grows_token, grows_ret, grows_then, grows_either, grows_define, grows_next, grows_type_form, grows_global, grows_in_brackets, grows_body}
 use Rattle.ir_printer.proofs.GlobalsReprinted.{as_quiet, reprinted_flag}
 
 -- ---- parameters
@@ -295,22 +296,11 @@ definition_indexed k s u x t bodies d i j =
     let none : IndexedTables (tables [] [] []) = (none_indexed, none_indexed, none_indexed) in
     (prints_rest (tables [] [] []) k [] t.locals d.place d.marks false none (bodies (tables [] [] []) none)).indexed (no_locals s) d.pieces d.def t d.reads (i, j, none_indexed)
 
--- symbols and type names are only put behind those before a definition
-grows_rest : (l : Limits) (names : List (List ℕ)) (place : Place) (m1 : Marks) → Grows (read_rest l names place m1)
-unfolding param param_name
-grows_rest l names place m1 =
-    grows_then (grows_type_form l) (λ (t : IrType).
-    grows_then grows_global (λ (f : SymId).
-    grows_then (grows_in_brackets l (grows_then (grows_type_form l) (λ (ty : IrType). grows_then (grows_quiet (quiet_attribute_list barred.Values no_marks)) (λ (m : Marks).
-    grows_then (grows_either (kind kinds.Local) (grows_then (grows_token _) (λ (name : List ℕ). grows_define name)) grows_next) (λ (x : LocalId). grows_ret))))) (λ (ps : List Param).
-    grows_then (grows_quiet (quiet_attributes (without_groups m1))) (λ (m : Marks).
-    grows_then (grows_body l) (λ (bs : List Block).
-    grows_ret)))))
-
-definition_front : (n : Tables) (k : ℕ) (s : Names) (u : List Piece) (x : read_entities.Entity) (t : Names) → IsDefinition k s u x t → Front false n t → Front false n s
-definition_front n k s u x t d front =
-    let more = (grows_rest (unlimited k) t.locals d.place d.marks).grows (no_locals s) d.pieces d.def t d.reads in
-    (begins_then s.symbols t.symbols n.symbols more.0 front.0, begins_then s.types t.types n.types more.1 front.1, λ e. absurd cc)
+-- names are only put behind those before a definition
+definition_front : (n : Tables) (k count : ℕ) (s : Names) (u : List Piece) (x : read_entities.Entity) (t : Names) → (definition (unlimited k) count).reads s u x t → Front false n t → Front false n s
+definition_front n k count s u x t r front =
+    let more = (keeps_definition {n = t} {H = Unit {0}} (unlimited k) count).grows s u x t r in
+    (begins_then s.symbols t.symbols n.symbols more.symbols front.0, begins_then s.types t.types n.types more.types front.1, λ e. absurd cc)
 
 -- a definition that was read is printed, where no local name stands twice at its end
 definition_prints : (n : Tables) (k : ℕ) (noinline : List (List ℕ)) (s : Names) (u : List Piece) (x : read_entities.Entity) (t : Names) → IsIndexed n.symbols → IsIndexed n.types → IsIndexed t.locals → ((m : Tables) → IndexedTables m → PrintsBody m k) → (d : IsDefinition k s u x t) → Front false n t → AreSound u →
@@ -336,7 +326,7 @@ pub read_definition : (n : Tables) (k : ℕ) (noinline : List (List ℕ)) → Is
     (count : ℕ) (s : Names) (u : List Piece) (x : read_entities.Entity) (t : Names) → (definition (unlimited k) count).reads s u x t → IsReadEntity n k noinline s u x t
 read_definition n k noinline i j bodies count s u x t r = record {
   indexed = λ all. definition_indexed k s u x t bodies d all.0 all.1;
-  fronts = definition_front n k s u x t d;
+  fronts = definition_front n k count s u x t r;
   left_out = λ h. absurd (none_some func (sym h ∙ ap (printed_of noinline) (sym d.told)));
   prints = λ front sound e h. subst (λ (y : Entity). IsEntityReprinted n k s y t) (some_entity e (ap (printed_of noinline) d.told ∙ h)) (definition_prints n k noinline s u x t i j (locals_indexed front) bodies d front sound);
 }
@@ -352,5 +342,5 @@ read_definition n k noinline i j bodies count s u x t r = record {
 
     locals_indexed : Front false n t → IsIndexed t.locals
     locals_indexed front =
-        let start = definition_front n k s u x t d front in
+        let start = definition_front n k count s u x t r front in
         (definition_indexed k s u x t bodies d (indexed_front n.symbols s.symbols start.0 i) (indexed_front n.types s.types start.1 j)).2

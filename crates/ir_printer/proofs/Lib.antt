@@ -40,7 +40,6 @@ mod BodiesReread
 mod DemandsReady
 mod EntitiesReprinted
 mod GlobalsReprinted
-mod NamesGrow
 mod ReadBack
 mod FunctionsReprinted
 mod EntitiesPrinted

@@ -1,7 +1,7 @@
 -- Forms that leave the local names alone: they read the same from other local names, and add only type names.
 use Rattle.std.proofs.Common.{◌≡◌, ◌⊎◌, inl, inr, refl, sym, ap, ◌∙◌, ℕ, ℤ, zero, suc, Bool, true, List, [], ◌∷◌, ◌++◌, length, take}
-use Rattle.std.specs.Prelude.{Option, Some, None}
-use Rattle.std.proofs.lemmas.List.{append_assoc, append-nil}
+use Rattle.std.specs.Prelude.{Option}
+use Rattle.std.proofs.lemmas.List.{append_assoc, append-nil, take_at}
 use Rattle.ir_lexer.specs.declared.table.Token.{Token}
 use Rattle.ir_core.specs.declared.ty.IrType.{IrType}
 use Rattle.ir_core.specs.declared.ty.IrType as types
@@ -11,7 +11,7 @@ use Rattle.ir_grammar.specs.declared.kinds.Kind.TheVariants as kinds
 use Rattle.ir_grammar.specs.declared.parts.Attribute.{Attribute}
 use Rattle.ir_grammar.specs.declared.parts.Marks.{Marks}
 use Rattle.ir_grammar.specs.Pieces.{Piece}
-use Rattle.ir_grammar.specs.Names.{Names, placed, numbered, type_name}
+use Rattle.ir_grammar.specs.Names.{Names, type_name}
 use Rattle.ir_grammar.specs.Sets.{Set}
 use Rattle.ir_grammar.specs.Forms.{Form, ret, Verdict, token, ◌>>=◌, either, Rounds, rounds}
 use Rattle.ir_grammar.specs.Tokens.{Limits, sign, kind, words_of, listed}
@@ -19,6 +19,7 @@ use Rattle.ir_grammar.specs.Groups.{group}
 use Rattle.ir_grammar.specs.Types.{named, scalars, last_of, type_set, array, struct, type_in, type_form}
 use Rattle.ir_grammar.specs.Attributes.{attribute_words, attribute_argument, attribute_value, attribute_set, attribute, no_marks, attribute_list}
 use Rattle.ir_grammar.specs.Operations.{tail_word, call_head}
+use Rattle.ir_proper.proofs.KeptNames.{numbered_begins}
 
 -- other local names, and another number of what has no name
 abbrev pub with_locals : List (List ℕ) → ℕ → Names → Names
@@ -93,15 +94,6 @@ free_listed {A = A} z h =
 
 -- ---- types
 
--- a name that appears is put behind the others, or is there
-placed_more : (o : Option ℕ) (name : List ℕ) (order : List (List ℕ)) → (more : List (List ℕ)) × ((placed o name order).1 ≡ order ++ more)
-placed_more (Some k) name order = ([], sym (append-nil order))
-placed_more None name order = (name ∷ [], refl)
-
-numbered_more : (name : List ℕ) (order : List (List ℕ)) → (more : List (List ℕ)) × ((numbered name order).1 ≡ order ++ more)
-unfolding numbered
-numbered_more name order = placed_more _ name order
-
 -- the type of a name
 abbrev named_as : List ℕ → Names → IrType × Names
 named_as name s = (types.Named (type_name name s).0, (type_name name s).1)
@@ -109,8 +101,8 @@ named_as name s = (types.Named (type_name name s).0, (type_name name s).1)
 named_adds : (name : List ℕ) (s : Names) (a : IrType) (t : Names) → named_as name s ≡ (a, t) → AddsTypes s t
 unfolding type_name
 named_adds name s a t e =
-    let m = numbered_more name s.types in
-    (m.0, ap (λ (x : IrType × Names). x.1) (sym e) ∙ ap (λ (xs : List (List ℕ)). record s { types = xs }) m.1)
+    let m = numbered_begins name s.types in
+    (m.0, ap (λ (x : IrType × Names). x.1) (sym e) ∙ ap (λ (xs : List (List ℕ)). record s { types = xs }) (sym m.1))
 
 named_moves : (name : List ℕ) (s : Names) (a : IrType) (t : Names) → named_as name s ≡ (a, t) → (locals : List (List ℕ)) (next : ℕ) → named_as name (with_locals locals next s) ≡ (a, with_locals locals next t)
 unfolding type_name
@@ -144,11 +136,7 @@ free_type_form l = free_type true l.length l.levels
 
 -- only the type names before stay
 pub types_kept : (s t : Names) → AddsTypes s t → record t { types = take (length s.types) t.types } ≡ s
-types_kept s t h = ap (λ (x : Names). record x { types = take (length s.types) x.types }) h.1 ∙ ap (λ (xs : List (List ℕ)). record s { types = xs }) (front s.types)
-  where
-    front : (xs : List (List ℕ)) → take (length xs) (xs ++ h.0) ≡ xs
-    front [] = refl
-    front (x ∷ xs) = ap (λ (ys : List (List ℕ)). x ∷ ys) (front xs)
+types_kept s t h = ap (λ (x : Names). record x { types = take (length s.types) x.types }) h.1 ∙ ap (λ (xs : List (List ℕ)). record s { types = xs }) (take_at s.types h.0 (length s.types) refl)
 
 -- ---- the head of a call
 

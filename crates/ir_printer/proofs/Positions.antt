@@ -10,6 +10,7 @@ use Rattle.std.proofs.lemmas.Slice.Eq.{bytes_eq-Decides}
 use Rattle.ir_grammar.specs.Names.{placed, numbered}
 use Rattle.ir_grammar.proofs.Apart.{bytes_same}
 use Rattle.ir_printer.specs.Layout.{name_at}
+use Rattle.ir_printer.specs.Reprints.{Begins}
 
 -- ---- the first place at which a test passes
 
@@ -42,10 +43,6 @@ first_within p (x ∷ xs) = by_within (p x) (position_or_len p xs) (length xs) (
 -- each name stands at its own position first: no name stands twice
 abbrev pub IsIndexed : List (List ℕ) → Type 0
 IsIndexed names = (k : ℕ) → k < length names → position_or_len (bytes_eq (name_at names k)) names ≡ k
-
--- these names begin a list of names
-abbrev pub Begins : List (List ℕ) → List (List ℕ) → Type 0
-Begins all names = (rest : List (List ℕ)) × (names ++ rest ≡ all)
 
 pub name_front : (xs ys : List (List ℕ)) (k : ℕ) → k < length xs → name_at (xs ++ ys) k ≡ name_at xs k
 name_front [] ys k h = absurd (omega arith)
