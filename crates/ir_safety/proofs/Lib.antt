@@ -1,0 +1,17 @@
+pub mod Safe
+pub mod PlainTypes
+pub mod Typed
+pub mod Listed
+pub mod Named
+pub mod Effects
+pub mod Standing
+pub mod NeverStuck
+pub mod FormedSafe
+pub mod Labels
+pub mod SafeBodies
+pub mod Agreement
+pub mod Registers
+pub mod Callees
+pub mod RowUses
+pub mod Assigned
+pub mod ValidRuns

@@ -1,0 +1,64 @@
+-- Names of a function and of a module: where the rules say so, none stands twice.
+use Rattle.std.proofs.Common.{◌≡◌, ◌≢◌, inl, inr, ℕ, suc, ◌<◌, ◌==◌, Bool, true, false, ◌||◌, List, [], ◌∷◌, map, Some, slice_get, refl, ap, ◌∙◌, arith}
+use Rattle.std.specs.List.{list_any}
+use Rattle.std.proofs.lemmas.Bool.Decides.{nat_tests}
+use Rattle.oi_base.specs.declared.ids.Place.{Place}
+use Rattle.ir_core.specs.declared.op.LocalId.{LocalId}
+use Rattle.ir_core.specs.declared.module.SymId.{SymId}
+use Rattle.ir_core.specs.declared.func.Func.{Func}
+use Rattle.ir_core.specs.Stands.{is_up_to}
+use Rattle.ir_core.specs.ValidFunc.{LocalAt}
+use Rattle.ir_core.proofs.Lists.{Has, Each, Apart}
+
+-- ---- in a function
+
+abbrev pub key : LocalAt → ℕ
+key a = a.name.0
+
+pub each_at : (P : ℕ → Type 0) (xs : List LocalAt) → ((j : ℕ) (b : LocalAt) → slice_get xs j ≡ Some b → P (key b)) → Each P (map key xs)
+each_at P [] h = tt
+each_at P (x ∷ xs) h = (h 0 x refl, each_at P xs (λ j b e. h (suc j) b e))
+
+pub same_name : (a b : LocalId) → a.0 ≡ b.0 → a ≡ b
+same_name a b e = ap (λ (n : ℕ). record { 0 = n }) e
+
+pub all_apart : (xs : List LocalAt) → ((i j : ℕ) (a b : LocalAt) → i < j → slice_get xs i ≡ Some a → slice_get xs j ≡ Some b → a.name ≡ b.name → ⊥) → Apart (map key xs)
+all_apart [] h = tt
+all_apart (x ∷ xs) h = (
+  each_at (λ y. key x ≢ y) xs (λ j b e same. h 0 (suc j) x b (omega arith) refl e (same_name x.name b.name same)),
+  all_apart xs (λ i j a b lt ei ej same. h (suc i) (suc j) a b (omega (arith, lt)) ei ej same),
+)
+
+-- ---- in a module
+
+pub up_to_total : (p q : Place) → is_up_to p q ≡ false → is_up_to q p ≡ true
+up_to_total p q h = grind (arith, nat_tests)
+
+pub same_symbol : (a b : SymId) → a.0 ≡ b.0 → a ≡ b
+same_symbol a b e = ap (λ (n : ℕ). record { 0 = n }) e
+
+abbrev pub has_name : SymId → Func → Bool
+has_name s f = f.name.0 == s.0
+
+abbrev pub HasFunc : SymId → List Func → Type 0
+HasFunc s fs = (f : Func) × Has fs f × (f.name ≡ s)
+
+pub named_func : (s : SymId) (fs : List Func) → list_any (has_name s) fs ≡ true → HasFunc s fs
+named_func s [] e = cc
+named_func s (f ∷ fs) e = by_test (f.name.0 == s.0) refl (named_func s fs) e
+  where
+    by_test : (t : Bool) → (f.name.0 == s.0) ≡ t → (list_any (has_name s) fs ≡ true → HasFunc s fs) → (t || list_any (has_name s) fs) ≡ true → HasFunc s (f ∷ fs)
+    by_test true t rest h = (f, inl refl, same_symbol f.name s (grind (arith, nat_tests)))
+    by_test false t rest h = let r = rest h in (r.0, inr r.1, r.2)
+
+pub named_any : (s : SymId) (fs : List Func) (f : Func) → Has fs f → f.name ≡ s → list_any (has_name s) fs ≡ true
+named_any s [] f h e = absurd h
+named_any s (g ∷ fs) f (inl same) e =
+    let n : g.name.0 ≡ s.0 = ap (λ (x : Func). x.name.0) same ∙ ap (λ (x : SymId). x.0) e in
+    let t : (g.name.0 == s.0) ≡ true = grind (arith, nat_tests) in
+    ap (λ (b : Bool). b || list_any (has_name s) fs) t
+named_any s (g ∷ fs) f (inr h) e = either (g.name.0 == s.0) (list_any (has_name s) fs) (named_any s fs f h e)
+  where
+    either : (a b : Bool) → b ≡ true → (a || b) ≡ true
+    either true b k = refl
+    either false b k = k

@@ -1,0 +1,21 @@
+ghost use Rattle.std.specs.Prelude.{◌≢◌, ◌<◌, ℕ, List, All};
+ghost use Rattle.oi_base.specs.Follows.{Stuck};
+ghost use Rattle.ir_core.specs.declared.flat.Scalar.{Scalar};
+ghost use Rattle.ir_core.specs.declared.module.Module as modules;
+ghost use Rattle.ir_core.specs.Flat.{Program, flat_run};
+ghost use Rattle.ir_core.specs.Formed.{FuncType, IsFormed};
+ghost use Rattle.ir_core.specs.Proper.{IsProper};
+ghost use Rattle.ir_core.specs.Source.{src};
+ghost use Rattle.ir_core.specs.Valid.{IsValid};
+
+/// No run of a proper and valid module is stuck, on any input of bytes: each operand has a value when it is used, and that
+/// is of the type that the operation asks for. It does nothing: its contract is the law.
+pub fn a_valid_run_is_never_stuck()
+    ensures { (m : modules.Module) → IsProper m → IsValid m → (input : List ℕ) → All (λ b. b < 256) input → (n : ℕ) → (src m input n).status ≢ Stuck }
+{}
+
+/// The run of a formed program of flat bodies is never stuck, on any input of bytes, whatever the types are under which it is
+/// formed. It does nothing: its contract is the law.
+pub fn a_formed_run_is_never_stuck()
+    ensures { (p : Program) (types : ℕ → ℕ → Scalar) (funcs : ℕ → FuncType) → IsFormed p types funcs → (input : List ℕ) → All (λ b. b < 256) input → (n : ℕ) → (flat_run p input n).status ≢ Stuck }
+{}

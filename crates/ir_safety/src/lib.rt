@@ -1,0 +1,6 @@
+//! Type safety: that no run of a valid module, and none of a formed program, is stuck.
+#![tactic(auto)]
+
+mod laws;
+
+pub use laws::{a_formed_run_is_never_stuck, a_valid_run_is_never_stuck};
