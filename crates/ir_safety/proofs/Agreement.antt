@@ -1,5 +1,5 @@
 -- The instructions, phis and ends of a valid module's plain bodies have operands of the types that they need.
-use Rattle.std.proofs.Common.{◌≡◌, inl, inr, ℕ, suc, ◌<◌, Bool, true, false, if◌then◌else◌, List, [], ◌∷◌, ◌++◌, map, Option, Some, None, slice_get, All, Contains, refl, sym, ap, ◌∙◌, subst, arith}
+use Rattle.std.proofs.Common.{◌≡◌, inl, inr, ℕ, suc, Bool, true, false, if◌then◌else◌, List, [], ◌∷◌, ◌++◌, map, Option, Some, None, slice_get, All, Contains, refl, sym, ap, ◌∙◌, subst, arith}
 use Rattle.std.specs.Option.{option_map}
 use Rattle.std.proofs.lemmas.List.Elements.{All-nil, All-cons, All-head, All-tail, All-map, All-contains}
 use Rattle.std.proofs.lemmas.Option.{slice_get-map}
@@ -30,7 +30,7 @@ use Rattle.ir_core.specs.declared.func.Instr.{Instr}
 use Rattle.ir_core.specs.declared.func.Block.{Block}
 use Rattle.ir_core.specs.declared.func.Func.{Func}
 use Rattle.ir_core.specs.Parts.{instrs, types_of, is_defined}
-use Rattle.ir_core.specs.Stands.{Step, Does, Ends, steps, block_steps, place_of, op_operands, end_operands, operands_of, symbol_text, is_up_to}
+use Rattle.ir_core.specs.Stands.{Step, Does, Ends, steps, block_steps, place_of, op_operands, end_operands, operands_of, symbol_text}
 use Rattle.ir_core.specs.Stands.{typed as with_type}
 use Rattle.ir_core.specs.Constants.{width_of, scalar_of, element_of, into, inside, walk, path}
 use Rattle.ir_core.specs.Formed.{HasType, is_cast, AllTyped, Receives, ReturnsType, IsBlock}
@@ -45,7 +45,7 @@ use Rattle.ir_core.proofs.Lists.{Has, Each, has_left, has_right, has_part, has_a
 use Rattle.ir_safety.proofs.Safe.{NotFalse, true_too, and_so, in_turn, IsTypedInstr, IsTypedEnd}
 use Rattle.ir_safety.proofs.PlainTypes.{func_types, result_scalar, func_type, plain_funcs}
 use Rattle.ir_safety.proofs.Listed.{all_at, has_in, has_mapped, map_source, mapped}
-use Rattle.ir_safety.proofs.Named.{up_to_total, HasFunc, named_func, named_any}
+use Rattle.ir_safety.proofs.Named.{Two, introduced_once, HasFunc, named_func, named_any}
 
 -- ---- lists
 
@@ -64,10 +64,6 @@ each_both P Q R (x ∷ xs) f p q = (f x p.0 q.0, each_both P Q R xs f p.1 q.1)
 each_joined : {A : Type 0} (P : A → Type 0) (xs ys : List A) → Each P xs → Each P ys → Each P (xs ++ ys)
 each_joined P [] ys p q = q
 each_joined P (x ∷ xs) ys p q = (p.0, each_joined P xs ys p.1 q)
-
--- one element stands before another
-abbrev Two : {A : Type 0} → List A → A → A → Type 0
-Two xs a b = (i j : ℕ) × (i < j) × (slice_get xs i ≡ Some a) × (slice_get xs j ≡ Some b)
 
 two_parts : {A : Type 0} (xs ys : List A) (a b : A) → Has xs a → Has ys b → Two (xs ++ ys) a b
 two_parts [] ys a b h k = absurd h
@@ -122,13 +118,6 @@ abbrev introduced_declaration : Declaration → Introduced
 introduced_declaration d = record { name = d.name; place = d.place }
 
 module _ (m : Module) (valid : IsValid m) where
-  introduced_once : (a b : Introduced) → Two (introduced m) a b → a.name ≡ b.name → ⊥
-  introduced_once a b two same = by_order (is_up_to a.place b.place) refl
-    where
-      by_order : (t : Bool) → is_up_to a.place b.place ≡ t → ⊥
-      by_order true t = let lt = two.2 in valid.symbol_twice b.place (two.0, two.1, a, b, (λ e. omega (arith, lt, e)), two.3, two.4, same, t, refl)
-      by_order false t = let lt = two.2 in valid.symbol_twice a.place (two.1, two.0, b, a, (λ e. omega (arith, lt, e)), two.4, two.3, sym same, up_to_total a.place b.place t, refl)
-
   func_first : (f : Func) (d : Declaration) → Has m.funcs f → Has m.declared d → Two (introduced m) (introduced_func f) (introduced_declaration d)
   func_first f d h k =
       let named : List Introduced = introduced_globals m ++ introduced_funcs m in
@@ -137,7 +126,7 @@ module _ (m : Module) (valid : IsValid m) where
 
   -- what is declared is not defined
   declared_only : (s : SymId) (d : Declaration) → Has m.declared d → d.name ≡ s → is_defined m s ≡ true → ⊥
-  declared_only s d h e defined = let g : HasFunc s m.funcs = named_func s m.funcs defined in introduced_once (introduced_func g.0) (introduced_declaration d) (func_first g.0 d g.1 h) (g.2 ∙ sym e)
+  declared_only s d h e defined = let g : HasFunc s m.funcs = named_func s m.funcs defined in introduced_once m valid (introduced_func g.0) (introduced_declaration d) (func_first g.0 d g.1 h) (g.2 ∙ sym e)
 
 -- ---- instructions
 

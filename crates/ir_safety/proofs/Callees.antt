@@ -1,9 +1,9 @@
 -- `main` and the functions that are called are there, with the types that the rules ask.
-use Rattle.std.proofs.Common.{◌≡◌, ◌⊎◌, inl, inr, ℕ, zero, suc, ◌+◌, ◌<◌, ◌==◌, ◌||◌, Bool, true, false, not, cond, if◌then◌else◌, codes, List, [], ◌∷◌, ◌++◌, map, length, Option, Some, None, slice_get, Contains, refl, sym, ap, ◌∙◌, subst, arith}
+use Rattle.std.proofs.Common.{◌≡◌, ◌⊎◌, inl, inr, ℕ, zero, suc, ◌+◌, ◌<◌, ◌≤◌, ◌==◌, ◌||◌, Bool, true, false, not, cond, if◌then◌else◌, codes, List, [], ◌∷◌, ◌++◌, map, length, Option, Some, None, slice_get, Contains, refl, sym, ap, ◌∙◌, subst, arith}
 use Rattle.std.specs.Prelude.{unwrap_or}
 use Rattle.std.specs.List.{filter_map, list_any, position_or_len}
 use Rattle.std.specs.Option.{option_map, option_map_or}
-use Rattle.std.proofs.lemmas.Bool.{cases_eq}
+use Rattle.std.proofs.lemmas.Bool.{cases_eq, cases_lt}
 use Rattle.std.proofs.lemmas.Bool.Decides.{nat_tests}
 use Rattle.std.proofs.lemmas.Option.{slice_get-map, slice_get_within, get_or_from_slice_get}
 use Rattle.std.proofs.lemmas.Slice.Eq.{bytes_eq-Decides}
@@ -28,7 +28,7 @@ use Rattle.ir_core.specs.declared.func.Block.{Block}
 use Rattle.ir_core.specs.declared.func.Func.{Func}
 use Rattle.ir_core.specs.declared.func.Param.{Param}
 use Rattle.ir_core.specs.Parts.{instrs, is_defined, types_of}
-use Rattle.ir_core.specs.Stands.{start, is_up_to, symbol_text}
+use Rattle.ir_core.specs.Stands.{start, symbol_text}
 use Rattle.ir_core.specs.Constants.{scalar_of}
 use Rattle.ir_core.specs.Instructions.{typed, register, func_number, external_call, call, instruction, block_rows}
 use Rattle.ir_core.specs.Source.{is_main, main_number}
@@ -43,7 +43,7 @@ use Rattle.ir_safety.proofs.Safe.{NotFalse, in_turn}
 use Rattle.ir_safety.proofs.PlainTypes.{func_type, result_scalar, plain_funcs}
 use Rattle.ir_safety.proofs.Registers.{mapped_twice}
 use Rattle.ir_safety.proofs.Listed.{all_at, has_in, mapped}
-use Rattle.ir_safety.proofs.Named.{up_to_total, same_symbol}
+use Rattle.ir_safety.proofs.Named.{same_symbol, introduced_once}
 
 -- ---- lists
 
@@ -123,21 +123,22 @@ module _ (m : Module) (valid : IsValid m) where
       left_at (introduced_globals m ++ introduced_funcs m) declarations (length (introduced_globals m) + i) (known f)
       (right_at (introduced_globals m) (introduced_funcs m) i ∙ slice_get-map known m.funcs i ∙ ap (option_map known) at)
 
+  less : {i j : ℕ} → (i ≡ j → ⊥) → j ≤ i → j < i
+  less apart le = omega (arith, apart, le)
+
   -- two functions of one name are one
   pub same_func : (i j : ℕ) (f g : Func) → slice_get m.funcs i ≡ Some f → slice_get m.funcs j ≡ Some g → f.name ≡ g.name → i ≡ j
-  same_func i j f g at_i at_j same = by_case (cases_eq i j)
+  same_func i j f g at_i at_j same = by_case (cases_eq i j) (cases_lt i j)
     where
       n : ℕ
       n = length (introduced_globals m)
 
-      by_order : (i ≡ j → ⊥) → (t : Bool) → is_up_to f.place g.place ≡ t → ⊥
-      by_order apart true up = valid.symbol_twice g.place (n + i, n + j, known f, known g, (λ e. apart (omega (arith, e))), introduced_at i f at_i, introduced_at j g at_j, same, up, refl)
-      by_order apart false up =
-          valid.symbol_twice f.place (n + j, n + i, known g, known f, (λ e. apart (omega (arith, e))), introduced_at j g at_j, introduced_at i f at_i, sym same, up_to_total f.place g.place up, refl)
-
-      by_case : (i ≡ j) ⊎ (i ≡ j → ⊥) → i ≡ j
-      by_case (inl e) = e
-      by_case (inr apart) = absurd (by_order apart (is_up_to f.place g.place) refl)
+      by_case : (i ≡ j) ⊎ (i ≡ j → ⊥) → (i < j) ⊎ (j ≤ i) → i ≡ j
+      by_case (inl e) order = e
+      by_case (inr apart) (inl lt) = absurd (introduced_once m valid (known f) (known g) (n + i, n + j, omega (arith, lt), introduced_at i f at_i, introduced_at j g at_j) same)
+      by_case (inr apart) (inr le) =
+          let lt : j < i = less (λ (e : i ≡ j). apart e) le in
+          absurd (introduced_once m valid (known g) (known f) (n + j, n + i, omega arith, introduced_at j g at_j, introduced_at i f at_i) (sym same))
 
   -- at the number of a name that a function has stands a function
   named_at : (s : SymId) (f : Func) → Has m.funcs f → f.name.0 ≡ s.0 → (g : Func) × (slice_get m.funcs (func_number m s) ≡ Some g)
