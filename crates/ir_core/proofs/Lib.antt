@@ -1,5 +1,6 @@
 pub mod AcyclicLemmas
 pub mod Capped
+pub mod Chained
 pub mod Counts
 pub mod Fields
 pub mod Laying

@@ -1,6 +1,7 @@
 pub mod Acyclic
 pub mod Capped
 pub mod Constants
+pub mod Ends
 pub mod FirstBroken
 pub mod Flat
 pub mod Formed

@@ -3,8 +3,10 @@ ghost use Rattle.std.specs.Option.{option_copied, option_and_then};
 ghost use Rattle.ir_core.specs.declared.layout.Layout.{Layout};
 ghost use Rattle.ir_core.specs.declared.ty.TypeName.{TypeName};
 ghost use Rattle.ir_core.specs.Sizes.{definition, resolved, name_of, fields, IsLaid};
+ghost use Rattle.ir_core.specs.Ends.{AreRight};
 ghost use Rattle.ir_core.specs.Known.{name_at, known, HasPositions, HasNoLayouts, IsRight, IsStuck, Describes, unlaid};
 
+use crate::chains::{Chain, chains_of};
 use crate::layout::Name;
 use crate::sizes::layout_of;
 use crate::ty::{IrType, TypeDef, TypeName};
@@ -13,11 +15,12 @@ use std::alloc::{AllocError, Global};
 use std::marker::Model;
 
 /// The definitions of a module's type names, in text order. Contracts see it as the list of them; it keeps a
-/// table of the names' layouts, so that none is worked out twice.
+/// table of the names' layouts and one of the ends of their chains, so that none is worked out twice.
 #[derive(Drop)]
 pub struct TypeDefs {
     defs: Items<TypeDef>,
     table: Vec<Name>,
+    chains: Vec<Chain>,
 }
 
 impl Model for TypeDefs {
@@ -25,6 +28,7 @@ impl Model for TypeDefs {
     ghost use Rattle.ir_core.specs.declared.ty.TypeDef.{TypeDef};
     ghost use Rattle.std.specs.Coded.{coded_list};
     ghost use Rattle.ir_core.specs.contracts.ty.TypeDef as type_def;
+    ghost use Rattle.ir_core.specs.Ends.{AreRight};
     ghost use Rattle.ir_core.specs.Known.{Describes};
 
     ghost Value = { List TypeDef };
@@ -33,7 +37,7 @@ impl Model for TypeDefs {
 
     ghost view = { λ s. s.defs };
 
-    ghost invariant = { λ s. Describes s.table.items s.defs };
+    ghost invariant = { λ s. Describes s.table.items s.defs × AreRight s.chains.items s.defs };
 }
 
 impl TypeDefs {
@@ -42,9 +46,14 @@ impl TypeDefs {
         ensures { IfOk result (λ ds. ds ≡ defs) }
     {
         let mut table = positions(alloc, defs.as_slice())?;
+        let chains = chains_of(alloc, defs.as_slice(), table.as_slice())?;
         lay_deepest_first(alloc, defs.as_slice(), &mut table)?;
         lay_all(defs.as_slice(), &mut table);
-        Ok(TypeDefs { defs, table })
+        Ok(TypeDefs {
+            defs,
+            table,
+            chains,
+        })
     }
 
     pub fn as_slice(&self) -> &[TypeDef]
@@ -65,6 +74,29 @@ impl TypeDefs {
 
     /// What a type is without the names that stand for it.
     pub fn resolved<'a>(&'a self, t: &'a IrType) -> &'a IrType
+        ensures { result.now ≡ resolved (length self.now) self.now t.now }
+    {
+        match self.end_of(t) {
+            Some(def) => &def.ty,
+            None => self.walked(t),
+        }
+    }
+
+    /// The last definition of the chain that begins with a type, where one is known.
+    fn end_of(&self, t: &IrType) -> Option<&TypeDef>
+        ensures { IfSome (option_copied result) (λ def. def.ty ≡ resolved (length self.now) self.now t.now) }
+    {
+        let IrType::Named(name) = t else {
+            return None;
+        };
+        match self.chains().get(name.0 as usize) {
+            Some(Chain::Ended(at, _)) => self.defs.get(*at),
+            _ => None,
+        }
+    }
+
+    /// What a type is without the names that stand for it, one name after the other.
+    fn walked<'a>(&'a self, t: &'a IrType) -> &'a IrType
         ensures { result.now ≡ resolved (length self.now) self.now t.now }
     {
         let mut stripped = t;
@@ -102,6 +134,12 @@ impl TypeDefs {
             IrType::Named(name) => self.definition(*name),
             _ => None,
         }
+    }
+
+    fn chains(&self) -> &[Chain]
+        ensures { AreRight result.now self.now }
+    {
+        self.chains.as_slice()
     }
 
     pub(crate) fn table(&self) -> &[Name]

@@ -1,6 +1,7 @@
 //! A module of the accepted IR, its types' sizes and alignments, and flat bodies.
 #![tactic(auto)]
 
+mod chains;
 mod constant;
 mod defs;
 mod flat;

@@ -230,6 +230,40 @@ fn sizes_of_types(rt: HostRuntime) -> Result<(), Fail> {
     Ok(())
 }
 
+/// The names 0, 1, 2 and 10 stand for `i16`; 3 and 4 for one another, 5 for 3, 6 for itself, and 9 is not defined.
+fn chained(alloc: Global) -> Result<TypeDefs, NoMemory> {
+    let mut defs = Vec::new(alloc);
+    define(&mut defs, 10, named(0))?;
+    define(&mut defs, 8, structure(alloc, [named(0)])?)?;
+    define(&mut defs, 2, I16)?;
+    define(&mut defs, 2, I8)?;
+    for (name, next) in [(0, 1), (1, 2), (3, 4), (4, 3), (5, 3), (6, 6), (7, 9)] {
+        define(&mut defs, name, named(next))?;
+    }
+    TypeDefs::of(alloc, Items::from_vec(defs))
+}
+
+/// A name that leads to itself is followed eleven times, as many as there are definitions.
+#[test]
+fn ends_of_chains(rt: HostRuntime) -> Result<(), Fail> {
+    let defs = chained(rt.alloc())?;
+    for name in [0, 1, 2, 10] {
+        let t = named(name);
+        assert!(rt; matches!(defs.resolved(&t), IrType::Int(Width::W16)));
+    }
+    for (name, end) in [(3, 4), (4, 3), (5, 3), (6, 6), (7, 9), (9, 9), (11, 11)] {
+        let t = named(name);
+        match defs.resolved(&t) {
+            IrType::Named(last) => assert_eq!(rt; last.0, end),
+            _ => assert!(rt; false),
+        }
+    }
+    let t = named(8);
+    assert!(rt; matches!(defs.resolved(&t), IrType::Struct(_)));
+    assert!(rt; matches!(defs.resolved(&IrType::Ptr), IrType::Ptr));
+    Ok(())
+}
+
 fn switch(alloc: Global) -> Result<FlatEnd, NoMemory> {
     let mut cases = Items::new(alloc);
     cases.push(Case {

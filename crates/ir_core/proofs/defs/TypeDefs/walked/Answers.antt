@@ -1,6 +1,6 @@
 use Rattle.std.proofs.Common.{◌≡◌, ◌+◌, ◌-◌, length, suc, sym, ap, ◌∙◌, arith}
 use Rattle.ir_core.proofs.Fields.{resolved_some}
-use Rattle.ir_core.proofs.defs.TypeDefs.resolved.Goals as goal
+use Rattle.ir_core.proofs.defs.TypeDefs.walked.Goals as goal
 
 pub loop-preserved : goal.loop-preserved
 loop-preserved c =
