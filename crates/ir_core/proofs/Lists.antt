@@ -1,7 +1,10 @@
 -- Elements of lists, lists without an element twice, and the first place at which something stands.
-use Rattle.std.proofs.Common.{◌≡◌, ◌≢◌, ◌⊎◌, inl, inr, ℕ, ◌+◌, ◌<◌, zero, suc, ◌==◌, Bool, true, false, not, cond, List, [], ◌∷◌, ◌++◌, length, Option, Some, None, slice_get, Contains, refl, sym, ap, ◌∙◌, subst, arith}
+use Rattle.std.proofs.Common.{◌≡◌, ◌≢◌, ◌⊎◌, inl, inr, ℕ, ◌+◌, ◌<◌, zero, suc, ◌==◌, Bool, true, false, not, cond, List, [], ◌∷◌, ◌++◌, map, length, Option, Some, None, slice_get, All, Contains, refl, sym, ap, ◌∙◌, subst, arith}
 use Rattle.std.specs.List.{flat_map, filter_map, cons_option, position_or_len}
+use Rattle.std.specs.Option.{option_map}
 use Rattle.std.proofs.lemmas.Bool.Decides.{nat_tests}
+use Rattle.std.proofs.lemmas.List.{map-append}
+use Rattle.std.proofs.lemmas.Option.{slice_get_within, slice_get-get_or, get_or_from_slice_get}
 
 -- x stands in the list
 abbrev pub Has : {A : Type 0} → List A → A → Type 0
@@ -31,6 +34,14 @@ pub each_map : {A : Type 0} (P Q : A → Type 0) (xs : List A) → ((x : A) → 
 each_map P Q [] f e = tt
 each_map P Q (x ∷ xs) f e = (f x e.0, each_map P Q xs f e.1)
 
+pub each_from : {A : Type 0} (P : A → Type 0) (xs : List A) → ((x : A) → Has xs x → P x) → Each P xs
+each_from P [] h = tt
+each_from P (x ∷ xs) h = (h x (inl refl), each_from P xs (λ y g. h y (inr g)))
+
+pub each_mapped : {A B : Type 0} (f : A → B) (P : B → Type 0) (xs : List A) → ((k : ℕ) (x : A) → slice_get xs k ≡ Some x → P (f x)) → Each P (map f xs)
+each_mapped f P [] h = tt
+each_mapped f P (x ∷ xs) h = (h 0 x refl, each_mapped f P xs (λ k y e. h (suc k) y e))
+
 pub each_left : {A : Type 0} (P : A → Type 0) (xs ys : List A) → Each P (xs ++ ys) → Each P xs
 each_left P [] ys e = tt
 each_left P (x ∷ xs) ys e = (e.0, each_left P xs ys e.1)
@@ -43,6 +54,13 @@ pub each_part : {A B : Type 0} (P : B → Type 0) (f : A → List B) (xs : List 
 each_part P f [] x e h = absurd h
 each_part P f (y ∷ ys) x e (inl same) = subst (λ z. Each P (f z)) same (each_left P (f y) (flat_map f ys) e)
 each_part P f (y ∷ ys) x e (inr h) = each_part P f ys x (each_right P (f y) (flat_map f ys) e) h
+
+pub apart_mapped : {A : Type 0} (f : A → ℕ) (xs : List A) → ((i j : ℕ) (a b : A) → i < j → slice_get xs i ≡ Some a → slice_get xs j ≡ Some b → f a ≢ f b) → Apart (map f xs)
+apart_mapped f [] h = tt
+apart_mapped f (x ∷ xs) h = (
+  each_mapped f (λ y. f x ≢ y) xs (λ j b e. h 0 (suc j) x b (omega arith) refl e),
+  apart_mapped f xs (λ i j a b lt ei ej. h (suc i) (suc j) a b (omega (arith, lt)) ei ej),
+)
 
 pub apart_left : (xs ys : List ℕ) → Apart (xs ++ ys) → Apart xs
 apart_left [] ys a = tt
@@ -86,11 +104,37 @@ at_has [] x h = absurd h
 at_has (y ∷ ys) x (inl e) = (0, ap Some e)
 at_has (y ∷ ys) x (inr h) = let r = at_has ys x h in (suc r.0, r.1)
 
+pub has_mapped : {A B : Type 0} (f : A → B) (xs : List A) (x : A) → Has xs x → Has (map f xs) (f x)
+has_mapped f [] x h = absurd h
+has_mapped f (y ∷ ys) x (inl e) = inl (ap f e)
+has_mapped f (y ∷ ys) x (inr h) = inr (has_mapped f ys x h)
+
+-- an element from which map made another
+pub map_source : {A B : Type 0} (f : A → B) (xs : List A) (y : B) → Has (map f xs) y → (x : A) × Has xs x × (f x ≡ y)
+map_source f [] y h = absurd h
+map_source f (x ∷ xs) y (inl e) = (x, inl refl, e)
+map_source f (x ∷ xs) y (inr h) = let r = map_source f xs y h in (r.0, inr r.1, r.2)
+
+pub has_made : {A B : Type 0} (f : A → Option B) (xs : List A) (x : A) (y : B) → Has xs x → f x ≡ Some y → Has (filter_map f xs) y
+has_made f [] x y h e = absurd h
+has_made f (z ∷ zs) x y (inl same) e = subst (λ o. Has (cons_option o (filter_map f zs)) y) (sym (ap f same ∙ e)) (inl refl)
+has_made f (z ∷ zs) x y (inr h) e = past (f z) (has_made f zs x y h e)
+  where
+    past : (o : Option _) → Has (filter_map f zs) y → Has (cons_option o (filter_map f zs)) y
+    past None g = g
+    past (Some w) g = inr g
+
 -- the same as std's word, which goes by index
 pub contains : {A : Type 0} (xs : List A) (x : A) → Has xs x → Contains xs x
 contains [] x h = absurd h
 contains (y ∷ ys) x (inl e) = (0, omega arith, e)
 contains (y ∷ ys) x (inr h) = let r = contains ys x h in let lt = r.1 in (suc r.0, omega (arith, lt), r.2)
+
+pub has_in : {A : Type 0} (xs : List A) (x : A) → Contains xs x → Has xs x
+has_in xs x h = has_at xs h.0 x (slice_get-get_or xs h.0 x h.1 ∙ ap Some h.2)
+
+pub all_at : {A : Type 0} (P : A → Type 0) (xs : List A) (k : ℕ) (x : A) → All P xs → slice_get xs k ≡ Some x → P x
+all_at P xs k x all e = subst P (get_or_from_slice_get xs k x x e) (all k x (slice_get_within xs k x e))
 
 -- an element from which filter_map made another
 pub has_source : {A B : Type 0} (f : A → Option B) (xs : List A) (y : B) → Has (filter_map f xs) y → (x : A) × Has xs x × (f x ≡ Some y)
@@ -113,6 +157,16 @@ pub element : {A : Type 0} (xs : List A) (k : ℕ) → k < length xs → (e : A)
 element [] k h = absurd (omega arith)
 element (y ∷ ys) zero h = (y, refl)
 element (y ∷ ys) (suc k) h = element ys k (omega arith)
+
+-- an element from which option_map made another
+pub mapped : {A B : Type 0} (f : A → B) (o : Option A) (y : B) → option_map f o ≡ Some y → (x : A) × (o ≡ Some x) × (f x ≡ y)
+mapped f None y e = cc
+mapped f (Some x) y e = (x, refl, cc)
+
+-- a function over the parts that make a list
+pub mapped_parts : {A B C : Type 0} (g : B → C) (f : A → List B) (h : A → List C) → ((x : A) → map g (f x) ≡ h x) → (xs : List A) → map g (flat_map f xs) ≡ flat_map h xs
+mapped_parts g f h e [] = refl
+mapped_parts g f h e (x ∷ xs) = map-append g (f x) (flat_map f xs) ∙ ap (λ ys. ys ++ map g (flat_map f xs)) (e x) ∙ ap (λ ys. h x ++ ys) (mapped_parts g f h e xs)
 
 -- ---- places
 

@@ -1,10 +1,10 @@
 -- The rules on names, allocas and the entry block say what a run needs.
-use Rattle.std.proofs.Common.{◌≡◌, ◌≢◌, inl, inr, ℕ, zero, suc, ◌<◌, Bool, true, false, if◌then◌else◌, bytes_eq, codes, List, [], ◌∷◌, ◌++◌, map, length, Option, Some, None, slice_get, All, Contains, refl, sym, ap, ◌∙◌, subst, arith}
+use Rattle.std.proofs.Common.{◌≡◌, ◌≢◌, inl, inr, ℕ, zero, suc, ◌<◌, Bool, true, false, if◌then◌else◌, bytes_eq, codes, List, [], ◌∷◌, ◌++◌, map, length, Option, Some, None, slice_get, Contains, refl, sym, ap, ◌∙◌, subst}
 use Rattle.std.specs.List.{flat_map, filter_map, cons_option, find}
 use Rattle.std.specs.Option.{option_map, option_map_or, option_and_then}
 use Rattle.std.proofs.lemmas.List.{map-append}
 use Rattle.std.proofs.lemmas.List.Folds.{find_at}
-use Rattle.std.proofs.lemmas.Option.{slice_get_within, get_or_from_slice_get}
+use Rattle.std.proofs.lemmas.Option.{slice_get_within}
 use Rattle.oi_base.specs.declared.ids.RegId.{RegId}
 use Rattle.ir_core.specs.declared.flat.FlatOp.{FlatOp}
 use Rattle.ir_core.specs.declared.flat.FlatInstr.{FlatInstr}
@@ -33,7 +33,7 @@ use Rattle.ir_core.specs.Source.{is_labelled, entry_label}
 use Rattle.ir_core.specs.Plain.{numbers, registers, results, RunsAsTheSource}
 use Rattle.ir_core.specs.Valid.{IsValid, IsValidFunc}
 use Rattle.ir_core.specs.ValidFunc.{LocalAt, instr_local, block_locals_at, locals_at, IsAlloca}
-use Rattle.ir_core.proofs.Lists.{Has, Each, Apart, each_of, each_map, each_left, each_right, each_part, apart_right, apart_part, apart_across, has_right, has_part, has_at, at_has, contains, has_source, place_within, place_has}
+use Rattle.ir_core.proofs.Lists.{Has, Each, Apart, each_of, each_map, each_from, each_left, each_right, each_part, apart_mapped, apart_right, apart_part, apart_across, has_right, has_part, has_at, at_has, has_mapped, has_made, contains, all_at, has_source, mapped, mapped_parts, place_within, place_has}
 use Rattle.ir_core.proofs.Sound.{IsAt, coming, IsRegister, Sound}
 use Rattle.ir_core.proofs.SourceRuns.{runs_as_the_source}
 
@@ -119,18 +119,9 @@ phi_agrees m None op = tt
 
 -- ---- the registers of a function
 
-has_filtered : {A B : Type 0} (f : A → Option B) (xs : List A) (x : A) (y : B) → Has xs x → f x ≡ Some y → Has (filter_map f xs) y
-has_filtered f [] x y h e = absurd h
-has_filtered f (z ∷ zs) x y (inl same) e = subst (λ o. Has (cons_option o (filter_map f zs)) y) (sym (ap f same ∙ e)) (inl refl)
-has_filtered {A} {B} f (z ∷ zs) x y (inr h) e = behind (f z) (has_filtered f zs x y h e)
-  where
-    behind : (o : Option B) → Has (filter_map f zs) y → Has (cons_option o (filter_map f zs)) y
-    behind None g = g
-    behind (Some w) g = inr g
-
 register_of : (g : Func) (b : Block) (j : Instr) (d : ℕ) → Has g.blocks b → Has b.code j → j.result ≡ Some (record { 0 = d }) → IsRegister g d
 register_of g b j d hb hj e =
-    let named : Has (results b) (record { 0 = d }) = has_filtered (λ (i : Instr). i.result) b.code j _ hj e in
+    let named : Has (results b) (record { 0 = d }) = has_made (λ (i : Instr). i.result) b.code j _ hj e in
     let all : Has (registers g) (record { 0 = d }) = has_right (map (λ (p : Param). p.name) g.params) (flat_map results g.blocks) _ (has_part results g.blocks b _ hb named) in
     place_within (λ (r : LocalId). r.0) (registers g) (record { 0 = d }) all
 
@@ -141,10 +132,6 @@ record Placed (m : Module) (x : ℕ) (g : Func) (k : FlatBlock) : Type 0 where
   found : slice_get g.blocks ((numbers g).block x) ≡ Some block
   rows : block_rows m block ≡ k
 
-mapped : {A B : Type 0} (f : A → B) (o : Option A) (y : B) → option_map f o ≡ Some y → (x : A) × (o ≡ Some x) × (f x ≡ y)
-mapped f None y e = cc
-mapped f (Some x) y e = (x, refl, cc)
-
 placed : (m : Module) (f x : ℕ) (g : Func) (k : FlatBlock) → IsAt m f x g k → Placed m x g k
 placed m f x g k at =
     let here : option_map (block_rows m) (find (is_labelled x) g.blocks) ≡ Some k = sym (ap (λ (o : Option Func). option_and_then (λ (h : Func). option_map (block_rows m) (find (is_labelled x) h.blocks)) o) at.func) ∙ at.block in
@@ -153,26 +140,11 @@ placed m f x g k at =
 
 -- ---- names that stand once
 
-abbrev key : LocalAt → ℕ
+abbrev pub key : LocalAt → ℕ
 key a = a.name.0
 
-each_at : (P : ℕ → Type 0) (xs : List LocalAt) → ((j : ℕ) (b : LocalAt) → slice_get xs j ≡ Some b → P (key b)) → Each P (map key xs)
-each_at P [] h = tt
-each_at P (x ∷ xs) h = (h 0 x refl, each_at P xs (λ j b e. h (suc j) b e))
-
-same_name : (a b : LocalId) → a.0 ≡ b.0 → a ≡ b
+pub same_name : (a b : LocalId) → a.0 ≡ b.0 → a ≡ b
 same_name a b e = ap (λ (n : ℕ). record { 0 = n }) e
-
-all_apart : (xs : List LocalAt) → ((i j : ℕ) (a b : LocalAt) → i < j → slice_get xs i ≡ Some a → slice_get xs j ≡ Some b → a.name ≡ b.name → ⊥) → Apart (map key xs)
-all_apart [] h = tt
-all_apart (x ∷ xs) h = (
-  each_at (λ y. key x ≢ y) xs (λ j b e same. h 0 (suc j) x b (omega arith) refl e (same_name x.name b.name same)),
-  all_apart xs (λ i j a b lt ei ej same. h (suc i) (suc j) a b (omega (arith, lt)) ei ej same),
-)
-
-parts_mapped : {A : Type 0} (f : A → List LocalAt) (xs : List A) → map key (flat_map f xs) ≡ flat_map (λ x. map key (f x)) xs
-parts_mapped f [] = refl
-parts_mapped f (x ∷ xs) = map-append key (f x) (flat_map f xs) ∙ ap (λ ys. map key (f x) ++ ys) (parts_mapped f xs)
 
 abbrev own : Option LocalId → List ℕ
 own None = []
@@ -222,15 +194,6 @@ module _ (m : Module) where
       head_apart j.result (instruction m j.result j.op) (code_rows js) (agrees m j.result j.op)
       (each_map (λ x. Each (λ y. x ≢ y) (names js)) (λ x. Each (λ y. x ≢ y) (filter_map written_by (code_rows js))) (own j.result) (λ x h. each_rows (λ y. x ≢ y) js h) across)
       (apart_rows js (apart_right (own j.result) (names js) all))
-
-each_from : {A : Type 0} (P : A → Type 0) (xs : List A) → ((x : A) → Has xs x → P x) → Each P xs
-each_from P [] h = tt
-each_from P (x ∷ xs) h = (h x (inl refl), each_from P xs (λ y g. h y (inr g)))
-
-has_mapped : {A B : Type 0} (f : A → B) (xs : List A) (x : A) → Has xs x → Has (map f xs) (f x)
-has_mapped f [] x h = absurd h
-has_mapped f (y ∷ ys) x (inl e) = inl (ap f e)
-has_mapped f (y ∷ ys) x (inr h) = inr (has_mapped f ys x h)
 
 -- ---- allocas
 
@@ -285,9 +248,6 @@ goes_label m ends.Unreachable t h = absurd h
 
 -- ---- all of it
 
-all_at : {A : Type 0} (P : A → Type 0) (xs : List A) (k : ℕ) (x : A) → All P xs → slice_get xs k ≡ Some x → P x
-all_at P xs k x all e = subst P (get_or_from_slice_get xs k x x e) (all k x (slice_get_within xs k x e))
-
 module _ (m : Module) (valid : IsValid m) where
   module _ (f x : ℕ) (g : Func) (k : FlatBlock) (at : IsAt m f x g k) where
     rules : IsValidFunc m g
@@ -329,8 +289,8 @@ module _ (m : Module) (valid : IsValid m) where
     block_names c = map key (block_locals_at c)
 
     named_once : Apart (map key params_at ++ flat_map block_names g.blocks)
-    named_once = subst Apart (map-append key params_at (flat_map block_locals_at g.blocks) ∙ ap (λ ys. map key params_at ++ ys) (parts_mapped block_locals_at g.blocks))
-        (all_apart (locals_at g) (λ i j a c lt ei ej same. rules.names c.place (i, j, a, c, lt, ei, ej, same, refl)))
+    named_once = subst Apart (map-append key params_at (flat_map block_locals_at g.blocks) ∙ ap (λ ys. map key params_at ++ ys) (mapped_parts key block_locals_at block_names (λ c. refl) g.blocks))
+        (apart_mapped key (locals_at g) (λ i j a c lt ei ej same. rules.names c.place (i, j, a, c, lt, ei, ej, same_name a.name c.name same, refl)))
 
     code_once : Apart (coming k 0)
     code_once =

@@ -39,12 +39,11 @@ use Rattle.ir_core.specs.Proper.{IsProper, IsProperFunc, HasItsResult}
 use Rattle.ir_core.specs.Valid.{IsValid, IsValidFunc}
 use Rattle.ir_core.specs.ValidFunc.{IsParam}
 use Rattle.ir_core.specs.ValidPaths.{IsBlockOf, IsSuccessor, IsPathOf, Writes, IsAssigned, IsUse}
-use Rattle.ir_core.proofs.Lists.{Has, has_at, at_has, has_part, has_source, contains, place_has}
+use Rattle.ir_core.proofs.Lists.{Has, has_at, at_has, has_part, has_source, contains, place_has, all_at, has_in, has_mapped, map_source, has_made, mapped}
+use Rattle.ir_core.proofs.SoundRules.{same_name}
 use Rattle.ir_safety.proofs.Safe.{NotFalse, true_too, and_so, in_turn}
 use Rattle.ir_safety.proofs.Standing.{one_at}
 use Rattle.ir_safety.proofs.RowUses.{AreOf, is_local_name, RowOf, row_of, end_of, no_phi, written_other, used_other, end_used_other, HasRow, has_row}
-use Rattle.ir_safety.proofs.Listed.{all_at, has_in, has_mapped, map_source, has_made, mapped}
-use Rattle.ir_safety.proofs.Named.{same_name}
 
 -- ---- lists
 

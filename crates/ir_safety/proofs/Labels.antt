@@ -33,16 +33,11 @@ use Rattle.ir_core.specs.Proper.{HasEntries, IsProperFunc, IsProper}
 use Rattle.ir_core.specs.Valid.{IsValid, IsValidFunc}
 use Rattle.ir_core.specs.ValidFunc.{LocalAt, block_locals_at, locals_at, IsLabel}
 use Rattle.ir_core.specs.ValidPaths.{HasGoodEntries}
-use Rattle.ir_core.proofs.Lists.{Has, Each, Apart, each_of, apart_across, apart_right, has_right, has_part, has_at, at_has, contains, has_source, element, place, place_within, place_has}
+use Rattle.ir_core.proofs.Lists.{Has, Each, Apart, each_of, apart_across, apart_right, has_right, has_part, has_at, at_has, contains, has_source, element, place, place_within, place_has, all_at, has_in, has_mapped, map_source, mapped, apart_mapped, mapped_parts}
+use Rattle.ir_core.proofs.SoundRules.{key, same_name}
 use Rattle.ir_safety.proofs.Safe.{NotFalse, in_turn}
-use Rattle.ir_safety.proofs.Listed.{all_at, has_in, has_mapped, map_source, mapped}
-use Rattle.ir_safety.proofs.Named.{key, same_name, all_apart}
 
 -- ---- names that stand once
-
-parts_mapped : {A : Type 0} (f : A → List LocalAt) (xs : List A) → map key (flat_map f xs) ≡ flat_map (λ x. map key (f x)) xs
-parts_mapped f [] = refl
-parts_mapped f (x ∷ xs) = map-append key (f x) (flat_map f xs) ∙ ap (λ ys. map key (f x) ++ ys) (parts_mapped f xs)
 
 -- the numbers of a block's names, its label's first
 abbrev block_names : Block → List ℕ
@@ -78,8 +73,8 @@ labels_once : (m : Module) (f : Func) → IsValidFunc m f → Apart (flat_map bl
 labels_once m f rules =
     let params : List LocalAt = map (λ (q : Param). record { name = q.name; place = f.place }) f.params in
     apart_right (map key params) (flat_map block_names f.blocks)
-    (subst Apart (map-append key params (flat_map block_locals_at f.blocks) ∙ ap (λ ys. map key params ++ ys) (parts_mapped block_locals_at f.blocks))
-    (all_apart (locals_at f) (λ i j a c lt ei ej same. rules.names c.place (i, j, a, c, lt, ei, ej, same, refl))))
+    (subst Apart (map-append key params (flat_map block_locals_at f.blocks) ∙ ap (λ ys. map key params ++ ys) (mapped_parts key block_locals_at block_names (λ b. refl) f.blocks))
+    (apart_mapped key (locals_at f) (λ i j a c lt ei ej same. rules.names c.place (i, j, a, c, lt, ei, ej, same_name a.name c.name same, refl))))
 
 -- ---- targets
 

@@ -1,7 +1,6 @@
 pub mod Safe
 pub mod PlainTypes
 pub mod Typed
-pub mod Listed
 pub mod Named
 pub mod Effects
 pub mod Standing

@@ -1,38 +1,15 @@
--- Names of a function and of a module: where the rules say so, none stands twice.
-use Rattle.std.proofs.Common.{◌≡◌, ◌≢◌, inl, inr, ℕ, suc, ◌<◌, ◌==◌, Bool, true, false, ◌||◌, List, [], ◌∷◌, map, Some, slice_get, refl, sym, ap, ◌∙◌, arith}
+-- Names of a module: where the rules say so, none stands twice.
+use Rattle.std.proofs.Common.{◌≡◌, inl, inr, ℕ, ◌<◌, ◌==◌, Bool, true, false, ◌||◌, List, [], ◌∷◌, Some, slice_get, refl, sym, ap, ◌∙◌, arith}
 use Rattle.std.specs.List.{list_any}
 use Rattle.std.proofs.lemmas.Bool.Decides.{nat_tests}
 use Rattle.oi_base.specs.declared.ids.Place.{Place}
-use Rattle.ir_core.specs.declared.op.LocalId.{LocalId}
 use Rattle.ir_core.specs.declared.module.SymId.{SymId}
 use Rattle.ir_core.specs.declared.func.Func.{Func}
 use Rattle.ir_core.specs.declared.module.Module.{Module}
 use Rattle.ir_core.specs.Stands.{is_up_to}
 use Rattle.ir_core.specs.Valid.{IsValid}
-use Rattle.ir_core.specs.ValidFunc.{LocalAt}
 use Rattle.ir_core.specs.ValidModule.{Introduced, introduced}
-use Rattle.ir_core.proofs.Lists.{Has, Each, Apart}
-
--- ---- in a function
-
-abbrev pub key : LocalAt → ℕ
-key a = a.name.0
-
-pub each_at : (P : ℕ → Type 0) (xs : List LocalAt) → ((j : ℕ) (b : LocalAt) → slice_get xs j ≡ Some b → P (key b)) → Each P (map key xs)
-each_at P [] h = tt
-each_at P (x ∷ xs) h = (h 0 x refl, each_at P xs (λ j b e. h (suc j) b e))
-
-pub same_name : (a b : LocalId) → a.0 ≡ b.0 → a ≡ b
-same_name a b e = ap (λ (n : ℕ). record { 0 = n }) e
-
-pub all_apart : (xs : List LocalAt) → ((i j : ℕ) (a b : LocalAt) → i < j → slice_get xs i ≡ Some a → slice_get xs j ≡ Some b → a.name ≡ b.name → ⊥) → Apart (map key xs)
-all_apart [] h = tt
-all_apart (x ∷ xs) h = (
-  each_at (λ y. key x ≢ y) xs (λ j b e same. h 0 (suc j) x b (omega arith) refl e (same_name x.name b.name same)),
-  all_apart xs (λ i j a b lt ei ej same. h (suc i) (suc j) a b (omega (arith, lt)) ei ej same),
-)
-
--- ---- in a module
+use Rattle.ir_core.proofs.Lists.{Has}
 
 up_to_total : (p q : Place) → is_up_to p q ≡ false → is_up_to q p ≡ true
 up_to_total p q h = grind (arith, nat_tests)

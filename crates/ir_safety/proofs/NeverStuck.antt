@@ -22,12 +22,11 @@ use Rattle.ir_core.specs.Memory.{Value, At, kill_all}
 use Rattle.ir_core.specs.Rows.{Read, Is, IsPoison, IsOther, as_word}
 use Rattle.ir_core.specs.Flat.{Program, Activation, Run, Regs, Effect, Sets, Allocates, Stores, Puts, Takes, Enters, Goes, Returns, Stops, NoMeaning, NoValue, without, got, at_most_one, entered, entry_for, entry_value, block_of, stands_at, goes_into, ended, back, returned, applied, what_stands, in_block, turn_of, flat_step, flat_start, flat_run}
 use Rattle.ir_core.specs.Formed.{FuncType, HasType, Receives, IsBlock, IsEdge, IsWritten, ComesIn, ComesFirst, of_result, written_by, used_by, used_at_end, targets}
-use Rattle.ir_core.proofs.Lists.{Has, contains}
+use Rattle.ir_core.proofs.Lists.{Has, contains, has_in}
 use Rattle.ir_safety.proofs.Safe.{NotFalse, true_too, and_so, in_turn, each_too, IsSafeBody, IsSafe}
 use Rattle.ir_safety.proofs.Typed.{IsOf, IsWord, word_read}
 use Rattle.ir_safety.proofs.Effects.{IsThere, AreOf, Callee, MayDo, MayEnd, CallsOne, value_there, effect_may, end_may}
 use Rattle.ir_safety.proofs.Standing.{HasReg, IsAwaited, one_at, set_has, TakesValue, phis_taken, entry_first, argument_at, taken_at, Stands, StandsWell, AreWaiting, Runs, IsFine, goes_on, is_over, set_stands, none_stands, call_stands, result_fine}
-use Rattle.ir_safety.proofs.Listed.{has_in}
 
 going_not_stuck : Going ≡ Stuck → ⊥
 going_not_stuck e = cc

@@ -32,11 +32,10 @@ use Rattle.ir_core.specs.Parts.{instrs}
 use Rattle.ir_core.specs.Valid.{IsValidFunc}
 use Rattle.ir_core.specs.ValidFunc.{LocalAt, instr_local, block_locals_at, locals_at}
 use Rattle.ir_core.specs.ValidOps.{op_result, LocalHasType, ConstAgrees, ValueAgrees, OperandAgrees, ConstFits, OperandFits}
-use Rattle.ir_core.proofs.Lists.{Has, Each, Apart, each_of, has_left, has_right, has_part, place}
+use Rattle.ir_core.proofs.Lists.{Has, Each, Apart, each_of, has_left, has_right, has_part, place, has_in, has_mapped, has_made, apart_mapped, mapped_parts}
+use Rattle.ir_core.proofs.SoundRules.{key, same_name}
 use Rattle.ir_safety.proofs.PlainTypes.{register_types, func_types, func_type}
 use Rattle.ir_safety.proofs.Typed.{some_words, word_small}
-use Rattle.ir_safety.proofs.Listed.{has_in, has_mapped, has_made}
-use Rattle.ir_safety.proofs.Named.{key, all_apart}
 
 -- ---- lists
 
@@ -61,10 +60,6 @@ in_part f (z ∷ zs) y h = by_part (split (f z) (flat_map f zs) y h) (λ g. in_p
 pub mapped_twice : {A B C : Type 0} (g : B → C) (f : A → B) (xs : List A) → map g (map f xs) ≡ map (λ x. g (f x)) xs
 mapped_twice g f [] = refl
 mapped_twice g f (x ∷ xs) = ap (λ ys. g (f x) ∷ ys) (mapped_twice g f xs)
-
-mapped_parts : {A B C : Type 0} (g : B → C) (f : A → List B) (h : A → List C) → ((x : A) → map g (f x) ≡ h x) → (xs : List A) → map g (flat_map f xs) ≡ flat_map h xs
-mapped_parts g f h e [] = refl
-mapped_parts g f h e (x ∷ xs) = map-append g (f x) (flat_map f xs) ∙ ap (λ ys. ys ++ map g (flat_map f xs)) (e x) ∙ ap (λ ys. h x ++ ys) (mapped_parts g f h e xs)
 
 mapped_first : {B C : Type 0} (g : B → C) (o : Option B) (ys : List B) → map g (cons_option o ys) ≡ cons_option (option_map g o) (map g ys)
 mapped_first g None ys = refl
@@ -195,7 +190,7 @@ some_names f = subst (λ xs. Thin xs (map key (locals_at f))) (sym old) (subst (
     thin = thin_joined (param_numbers f) (param_numbers f) _ _ (all_of (param_numbers f)) (thin_parts (λ (b : Block). map number (of_block b)) (λ (b : Block). map key (block_locals_at b)) block_names f.blocks)
 
 named_once : (m : Module) (f : Func) → IsValidFunc m f → Apart (map number (all_registers f))
-named_once m f valid = apart_thin (map number (all_registers f)) (map key (locals_at f)) (some_names f) (all_apart (locals_at f) (λ i j a b lt ei ej same. valid.names b.place (i, j, a, b, lt, ei, ej, same, refl)))
+named_once m f valid = apart_thin (map number (all_registers f)) (map key (locals_at f)) (some_names f) (apart_mapped key (locals_at f) (λ i j a b lt ei ej same. valid.names b.place (i, j, a, b, lt, ei, ej, same_name a.name b.name same, refl)))
 
 -- ---- the type of each
 

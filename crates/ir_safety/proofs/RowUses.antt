@@ -38,9 +38,8 @@ use Rattle.ir_core.specs.Plain.{Numbers, other_reg, other_operand, other_term, o
 use Rattle.ir_core.specs.Proper.{HasItsResult}
 use Rattle.ir_core.specs.ValidFunc.{IsPhi}
 use Rattle.ir_core.specs.ValidOps.{CallsWell, IsDefinedAs, IsDeclaredAs}
-use Rattle.ir_core.proofs.Lists.{Has, has_left, has_right}
+use Rattle.ir_core.proofs.Lists.{Has, has_left, has_right, has_in}
 use Rattle.ir_safety.proofs.Safe.{NotFalse, true_too, and_so, in_turn}
-use Rattle.ir_safety.proofs.Listed.{has_in}
 use Rattle.ir_safety.proofs.Named.{named_any}
 
 -- ---- what rows use

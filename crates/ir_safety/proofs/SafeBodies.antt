@@ -21,10 +21,10 @@ use Rattle.ir_core.specs.Formed.{FuncType, HasType, IsBlock, IsPath, ComesFirst,
 use Rattle.ir_core.specs.Plain.{plain_body, plain_program}
 use Rattle.ir_core.specs.Proper.{IsProper}
 use Rattle.ir_core.specs.Valid.{IsValid}
+use Rattle.ir_core.proofs.Lists.{mapped}
 use Rattle.ir_safety.proofs.Safe.{NotFalse, IsTypedInstr, IsTypedEnd, IsSafeBody, IsSafe}
 use Rattle.ir_safety.proofs.PlainTypes.{func_types, func_type, plain_types, plain_funcs}
 use Rattle.ir_safety.proofs.Labels.{entry_safe, in_range_safe, phis_safe}
-use Rattle.ir_safety.proofs.Listed.{mapped}
 
 -- ---- what is known of each function, and of the whole
 

@@ -13,6 +13,7 @@ use Rattle.ir_core.specs.Source.{src}
 use Rattle.ir_core.specs.Valid.{IsValid, IsValidFunc}
 use Rattle.ir_core.specs.ValidOps.{IsDefinedAs}
 use Rattle.ir_core.proofs.SoundRules.{runs_as_the_source_where_valid}
+use Rattle.ir_core.proofs.Lists.{all_at}
 use Rattle.ir_safety.proofs.Safe.{NotFalse, true_too, IsSafe}
 use Rattle.ir_safety.proofs.PlainTypes.{result_scalar, plain_types, plain_funcs}
 use Rattle.ir_safety.proofs.NeverStuck.{never_stuck}
@@ -21,7 +22,6 @@ use Rattle.ir_safety.proofs.Callees.{callee_type, has_main, main_type, called}
 use Rattle.ir_safety.proofs.Agreement.{code_typed, phi_types, ends_typed}
 use Rattle.ir_safety.proofs.Assigned.{code_comes_first, end_comes_first, phi_comes_first}
 use Rattle.ir_safety.proofs.SafeBodies.{plain_bodies_safe}
-use Rattle.ir_safety.proofs.Listed.{all_at}
 
 module _ (m : Module) (proper : IsProper m) (valid : IsValid m) where
   func_valid : (g : ℕ) (f : Func) → slice_get m.funcs g ≡ Some f → IsValidFunc m f
