@@ -20,6 +20,3 @@ pub use fault::ReadFault;
 pub use reader::Reader;
 pub use table::Table;
 pub use typing::MOST_LEVELS;
-
-#[cfg(test)]
-mod tests;

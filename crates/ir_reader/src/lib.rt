@@ -20,6 +20,3 @@ mod settling;
 pub use ir_grammar::Which;
 pub use ir_phrases::ReadFault;
 pub use read::read_module;
-
-#[cfg(test)]
-mod tests;

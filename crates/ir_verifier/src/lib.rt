@@ -18,11 +18,7 @@ mod positions;
 mod predecessors;
 mod references;
 mod registers;
-#[cfg(test)]
-mod row_tests;
 mod scope;
-#[cfg(test)]
-mod tests;
 mod types;
 mod verifying;
 

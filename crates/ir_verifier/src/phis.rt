@@ -44,7 +44,7 @@ pub fn first_break(alloc: Global, m: &Module, f: &Func) -> Result<Option<Place>,
     first_fault(alloc, m, &predecessors, f)
 }
 
-pub fn first_fault(
+fn first_fault(
     alloc: Global,
     m: &Module,
     predecessors: &Predecessors,

@@ -7,8 +7,6 @@ mod components;
 mod cycles;
 mod first;
 pub mod has_main;
-#[cfg(test)]
-mod init_tests;
 pub mod initialisers;
 mod integers;
 mod laws;
@@ -19,8 +17,6 @@ pub mod sizes;
 mod struct_names;
 pub mod symbols;
 pub mod target;
-#[cfg(test)]
-mod tests;
 pub mod totals;
 pub mod type_names;
 mod type_parts;

@@ -28,7 +28,7 @@ pub fn first_break(alloc: Global, m: &Module) -> Result<Option<Place>, NoMemory>
 }
 
 /// The first place at which the test for types that are too large finds one.
-pub(crate) fn first_large(alloc: Global, m: &Module) -> Result<Option<Place>, NoMemory>
+fn first_large(alloc: Global, m: &Module) -> Result<Option<Place>, NoMemory>
     ensures { IfOk result (λ first. first ≡ earliest None (size_faults m.now (small_defs m.now.types.defs))) }
 {
     let small = TypeDefs::of(alloc, small_defs(alloc, m)?)?;

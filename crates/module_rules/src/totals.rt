@@ -88,11 +88,7 @@ fn global_align(m: &Module, global: &GlobalVar) -> u32
 }
 
 /// The first name with which those up to its place have more bytes than the most.
-pub(crate) fn first_past_names(
-    alloc: Global,
-    m: &Module,
-    most: usize,
-) -> Result<Option<Place>, NoMemory>
+fn first_past_names(alloc: Global, m: &Module, most: usize) -> Result<Option<Place>, NoMemory>
     ensures { IfOk result (IsFound (HasNamesPast most m.now)) }
 {
     let names = in_order(sized_names(alloc, m)?);

@@ -23,7 +23,7 @@ pub fn first_break(alloc: Global, m: &Module) -> Result<Option<Place>, NoMemory>
 }
 
 /// The same but for types that hold themselves.
-pub(crate) fn first_wrong_use(alloc: Global, m: &Module) -> Result<Option<Place>, NoMemory>
+fn first_wrong_use(alloc: Global, m: &Module) -> Result<Option<Place>, NoMemory>
     ensures { IfOk result (IsFound (BreaksUses m.now)) }
 {
     let uses = uses_in(alloc, m)?;

@@ -10,14 +10,10 @@ mod executable;
 mod faults;
 mod laws;
 mod one_block;
-#[cfg(test)]
-mod printer_tests;
 mod reply;
 #[cfg(test)]
 mod tests;
 mod unbuilt;
-#[cfg(test)]
-mod verifier_tests;
 mod words;
 
 use command::tool;

@@ -1,7 +1,6 @@
-use crate::tests::lines_of;
+use crate::texts::{lines_of, read};
 use ir_grammar::a_read_module_is_readable;
 use ir_printer::print_module;
-use ir_reader::read_module;
 use std::alloc::Global;
 use std::test::Fail;
 
@@ -19,10 +18,7 @@ define i8 @f(i8, i8 zeroext %a, i8) #2 {~  %x = add i8 %0, %1~  ret i8 %x~}~defi
 
 /// The text of the module of a text.
 fn printed(alloc: Global, text: &[u8]) -> Result<Vec<u8>, Fail> {
-    if text.len() > 1_048_576 {
-        return Err("too long")?;
-    }
-    match read_module(alloc, text) {
+    match read(alloc, text) {
         Ok(m) => {
             a_read_module_is_readable();
             Ok(print_module(alloc, &m)?)

@@ -1,8 +1,7 @@
-use crate::read_module;
+use crate::texts::{lines_of, read, repeated};
 use ir_core::{Block, Func, GlobalVar, Module};
-use ir_grammar::Which;
 use ir_lexer::LexFault;
-use ir_phrases::ReadFault;
+use ir_reader::{ReadFault, Which};
 use oi_base::{Place, Text};
 use std::alloc::{AllocError, Global};
 use std::test::Fail;
@@ -41,27 +40,11 @@ fn fault(alloc: Global, fault: ReadFault) -> Result<String, AllocError> {
     }
 }
 
-fn read(alloc: Global, text: &[u8]) -> Result<Module, ReadFault> {
-    if text.len() >= 4_294_967_295 {
-        return Err(ReadFault::NoMemory);
-    }
-    read_module(alloc, text)
-}
-
 fn said(alloc: Global, text: &[u8]) -> Result<String, AllocError> {
     match read(alloc, text) {
         Ok(_) => format!(in alloc; "ok"),
         Err(found) => fault(alloc, found),
     }
-}
-
-/// The text of a row, where `~` stands for a line's end.
-fn lines_of(alloc: Global, row: &str) -> Result<Vec<u8>, AllocError> {
-    let mut text = Vec::new(alloc);
-    for byte in row.as_bytes() {
-        text.push(if *byte == b'~' { b'\n' } else { *byte })?;
-    }
-    Ok(text)
 }
 
 /// Texts of one token a word, and behind each word whether the text may be cut there.
@@ -227,7 +210,52 @@ define void @f(i8 align 4294967296) {\t1:38 syntax
 define void @f() {~%x = alloca i8, i8 -1\t2:20 limit length
 define void @f() {~%x = alloca i8, align -1\t2:23 limit length
 define void @f() {~store i8 0, ptr null, align -1\t2:29 limit length
-define void @f(i8 align -1) {\t1:30 syntax";
+define void @f(i8 align -1) {\t1:30 syntax
+%T = type i1~%T = type i8~%T = type i16~%T = type i32~%T = type ptr~%T = type void~%T = type %T~%T = type %\"a b\"~%T = type [3 x i8]~%T = type { }~%T = type { i8, void }~%T = type { [0 x ptr], %T }\tok
+%T = type [\t1:12 syntax
+%T = type [3\t1:13 syntax
+%T = type [3 x\t1:15 syntax
+%T = type [3 x i8\t1:18 syntax
+%T = type [3 x i8,\t1:18 syntax
+%T = type { i8, }\t1:17 syntax
+%T = type { i8 i8 }\t1:16 syntax
+%T = type { [0 x ptr], %T } x\t1:29 syntax
+%T = type [x x i8]\t1:12 syntax
+%T = type [1 x i8] i8\t1:20 syntax
+%T = type x\t1:11 syntax
+%T = type 7\t1:11 syntax
+%T = type @a\t1:11 syntax
+%T = type \"s\"\t1:11 syntax
+%T = type [18446744073709551616 x i8]\t1:12 limit length
+%T = type { { i32, { } }, [2 x { ptr }] } ,\t1:43 syntax
+%T = type [1 x [1 x [1 x [1 x [1 x [1 x [1 x [1 x [1 x [1 x [1 x [1 x [1 x [1 x [1 x [1 x [1 x [1 x [1 x [1 x [1 x [1 x [1 x [1 x [1 x [1 x [1 x [1 x [1 x [1 x [1 x [1 x [1 x [1 x [1 x [1 x [1 x [1 x [1 x [1 x [1 x [1 x [1 x [1 x [1 x [1 x [1 x [1 x [1 x [1 x [1 x [1 x [1 x [1 x [1 x [1 x [1 x [1 x [1 x [1 x [1 x [1 x [1 x [1 x [1 x i8]]]]]]]]]]]]]]]]]]]]]]]]]]]]]]]]]]]]]]]]]]]]]]]]]]]]]]]]]]]]]]]]]\t1:331 limit nesting
+%T = type [1 x [1 x [1 x [1 x [1 x [1 x [1 x [1 x [1 x [1 x [1 x [1 x [1 x [1 x [1 x [1 x [1 x [1 x [1 x [1 x [1 x [1 x [1 x [1 x [1 x [1 x [1 x [1 x [1 x [1 x [1 x [1 x [1 x [1 x [1 x [1 x [1 x [1 x [1 x [1 x [1 x [1 x [1 x [1 x [1 x [1 x [1 x [1 x [1 x [1 x [1 x [1 x [1 x [1 x [1 x [1 x [1 x [1 x [1 x [1 x [1 x [1 x [1 x [1 x %T]]]]]]]]]]]]]]]]]]]]]]]]]]]]]]]]]]]]]]]]]]]]]]]]]]]]]]]]]]]]]]]]\tok
+%T = type [1 x [1 x [1 x [1 x [1 x [1 x [1 x [1 x [1 x [1 x [1 x [1 x [1 x [1 x [1 x [1 x [1 x [1 x [1 x [1 x [1 x [1 x [1 x [1 x [1 x [1 x [1 x [1 x [1 x [1 x [1 x [1 x [1 x [1 x [1 x [1 x [1 x [1 x [1 x [1 x [1 x [1 x [1 x [1 x [1 x [1 x [1 x [1 x [1 x [1 x [1 x [1 x [1 x [1 x [1 x [1 x [1 x [1 x [1 x [1 x [1 x [1 x [1 x [1 x {\t1:331 limit nesting
+define void @f() {~ret i8 %x~ret i8 @g~ret i8 7~ret i8 -3~ret i8 true~ret i8 false~ret i8 null~ret i8 undef~ret i8 poison~ret i8 getelementptr (i8, ptr @g)~ret i8 getelementptr inbounds nuw nusw (%T, ptr @g, i32 1, i8 -2)~ret i8 getelementptr (i8, ptr @g, i32 4294967296)~}\tok
+define void @f() {~ret i8 zeroinitializer~}\t2:8 syntax
+define void @f() {~ret i8 getelementptr inbounds~}\t3:1 syntax
+define void @f() {~ret i8 getelementptr (i8, i8 @g)~}\t2:27 syntax
+define void @f() {~ret i8 getelementptr (i8, ptr null)~}\t2:31 syntax
+define void @f() {~ret i8 getelementptr (i8, ptr @g,)~}\t2:34 syntax
+define void @f() {~ret i8 getelementptr (i8, ptr @g, i32 %x)~}\t2:39 syntax
+define void @f() {~ret i8 {~}\t2:8 syntax
+define void @f() {~ret i8 [~}\t2:8 syntax
+define void @f() {~ret i8 c\"a\"~}\t2:8 syntax
+define void @f() {~ret i8 blockaddress~}\t2:8 left out
+define void @f() {~ret i8 inrange~}\t2:8 left out
+define void @f() {~ret i8 #0~}\t2:8 syntax
+define void @f() {~ret i8 !DIx~}\t2:8 left out
+define void @f() {~ret i8 !x~}\t2:8 syntax
+define void @f() {~ret i8 ~}\t3:1 syntax
+@g = global i8 @g~@g = global i8 7~@g = global i8 zeroinitializer~@g = global i8 c\"ab\\00\"~@g = global i8 undef~@g = global i8 [ ]~@g = global i8 { }~@g = global i8 [ i8 1 ]~@g = global i8 { i8 1, ptr @g, [2 x i8] c\"ab\", { } zeroinitializer }~@g = global i8 [i8 getelementptr (i8, ptr @g)]~@g = global i8 [ [1 x i8] [ i8 1 ], [1 x i8] zeroinitializer ]\tok
+@g = global i8 [ i8 1, ]\t1:24 syntax
+@g = global i8 [ i8 1, i8 2 ] x\t1:31 syntax
+@g = global i8 { i8 }\t1:21 syntax
+@g = global i8 { i8 1\t1:22 syntax
+@g = global i8 addrspace\t1:16 left out
+@g = global i8 [ i8 [ i8 [ i8 [ i8 [ i8 [ i8 [ i8 [ i8 [ i8 [ i8 [ i8 [ i8 [ i8 [ i8 [ i8 [ i8 [ i8 [ i8 [ i8 [ i8 [ i8 [ i8 [ i8 [ i8 [ i8 [ i8 [ i8 [ i8 [ i8 [ i8 [ i8 [ i8 [ i8 [ i8 [ i8 [ i8 [ i8 [ i8 [ i8 [ i8 [ i8 [ i8 [ i8 [ i8 [ i8 [ i8 [ i8 [ i8 [ i8 [ i8 [ i8 [ i8 [ i8 [ i8 [ i8 [ i8 [ i8 [ i8 [ i8 [ i8 [ i8 [ i8 [ i8 [ i8 1 ] ] ] ] ] ] ] ] ] ] ] ] ] ] ] ] ] ] ] ] ] ] ] ] ] ] ] ] ] ] ] ] ] ] ] ] ] ] ] ] ] ] ] ] ] ] ] ] ] ] ] ] ] ] ] ] ] ] ] ] ] ] ] ]\tok
+@g = global i8 [ i8 [ i8 [ i8 [ i8 [ i8 [ i8 [ i8 [ i8 [ i8 [ i8 [ i8 [ i8 [ i8 [ i8 [ i8 [ i8 [ i8 [ i8 [ i8 [ i8 [ i8 [ i8 [ i8 [ i8 [ i8 [ i8 [ i8 [ i8 [ i8 [ i8 [ i8 [ i8 [ i8 [ i8 [ i8 [ i8 [ i8 [ i8 [ i8 [ i8 [ i8 [ i8 [ i8 [ i8 [ i8 [ i8 [ i8 [ i8 [ i8 [ i8 [ i8 [ i8 [ i8 [ i8 [ i8 [ i8 [ i8 [ i8 [ i8 [ i8 [ i8 [ i8 [ i8 [ i8 [ i8 1 ] ] ] ] ] ] ] ] ] ] ] ] ] ] ] ] ] ] ] ] ] ] ] ] ] ] ] ] ] ] ] ] ] ] ] ] ] ] ] ] ] ] ] ] ] ] ] ] ] ] ] ] ] ] ] ] ] ] ] ] ] ] ] ] ]\t1:336 limit nesting
+@g = global i8 [ %T [ %T [ %T [ %T [ %T [ %T [ %T [ %T [ %T [ %T [ %T [ %T [ %T [ %T [ %T [ %T [ %T [ %T [ %T [ %T [ %T [ %T [ %T [ %T [ %T [ %T [ %T [ %T [ %T [ %T [ %T [ %T [ %T [ %T [ %T [ %T [ %T [ %T [ %T [ %T [ %T [ %T [ %T [ %T [ %T [ %T [ %T [ %T [ %T [ %T [ %T [ %T [ %T [ %T [ %T [ %T [ %T [ %T [ %T [ %T [ %T [ %T [ %T [ %T undef ] ] ] ] ] ] ] ] ] ] ] ] ] ] ] ] ] ] ] ] ] ] ] ] ] ] ] ] ] ] ] ] ] ] ] ] ] ] ] ] ] ] ] ] ] ] ] ] ] ] ] ] ] ] ] ] ] ] ] ] ] ] ] ]\tok";
 
 /// Texts and what their modules hold: the names in order, and what is in no other table.
 const NAMES: &str =
@@ -378,23 +406,6 @@ fn names_places_and_marks(rt: HostRuntime) -> Result<(), Fail> {
         assert_eq!(rt; told(rt.alloc(), &module)?.as_str(), wanted, "of {text}");
     }
     Ok(())
-}
-
-/// A text that begins so, has a part many times and ends so.
-fn repeated(
-    alloc: Global,
-    first: &str,
-    part: &str,
-    times: u32,
-    last: &str,
-) -> Result<String, AllocError> {
-    let mut text = String::new(alloc);
-    text.push_str(first)?;
-    for _ in 0..times {
-        text.push_str(part)?;
-    }
-    text.push_str(last)?;
-    Ok(text)
 }
 
 #[test]
