@@ -120,8 +120,10 @@ const INITIALISERS: &str =
 %A = type { ptr }~@g1 = global %A { ptr @g1 }~define i32 @main() {~  ret i32 1~}\tvalid
 %A = type { i32, [4 x i8] }~%B = type %A~@g1 = global ptr getelementptr ([2 x %B], ptr @g1, i32 0, i32 1, i32 1, i32 3)~@g2 = global ptr getelementptr (%B, ptr @g1, i32 0, i32 1)~define i32 @main() {~  ret i32 1~}\tvalid
 @g1 = global i1 2~define i32 @main() {~  ret i32 1~}\trule 5 1:1
+@g1 = global i1 -2~define i32 @main() {~  ret i32 1~}\trule 5 1:1
 @g1 = global i8 256~define i32 @main() {~  ret i32 1~}\trule 5 1:1
 @g1 = global i8 0~@g2 = global i8 -129~define i32 @main() {~  ret i32 1~}\trule 5 2:1
+@g1 = global i16 65536~@g2 = global i16 -32769~define i32 @main() {~  ret i32 1~}\trule 5 1:1
 @g1 = global i16 65535~@g2 = global i16 -32769~define i32 @main() {~  ret i32 1~}\trule 5 2:1
 @g1 = global i32 4294967296~define i32 @main() {~  ret i32 1~}\trule 5 1:1
 @g1 = global i32 4294967295~@g2 = global i32 -2147483649~define i32 @main() {~  ret i32 1~}\trule 5 2:1
