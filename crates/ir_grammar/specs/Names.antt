@@ -1,5 +1,5 @@
 -- The names of a text in order of first appearance, and the numbers of what has no name.
-use Rattle.std.specs.Prelude.{ℕ, ◌+◌, ◌-◌, ◌*◌, ◌&&◌, nat_le, List, [], ◌∷◌, ◌++◌, length, position, Option, Some, None, if◌then◌else◌}
+use Rattle.std.specs.Prelude.{◌≡◌, ℕ, ◌+◌, ◌-◌, ◌*◌, ◌&&◌, nat_le, List, [], ◌∷◌, ◌++◌, length, position, Option, Some, None, if◌then◌else◌}
 use Rattle.std.specs.Str.{bytes_eq}
 use Rattle.std.specs.Fmt.{decimal}
 use Rattle.ir_core.specs.declared.module.SymId.{SymId}
@@ -17,6 +17,10 @@ pub record Names : Type 0 where
 
 abbrev pub no_names : Names
 no_names = record { symbols = []; types = []; locals = []; next = 0 }
+
+-- these names begin a list of names
+abbrev pub Begins : List (List ℕ) → List (List ℕ) → Type 0
+Begins all names = (rest : List (List ℕ)) × (names ++ rest ≡ all)
 
 -- the place of a name in a list, and the list with the name
 abbrev pub placed : Option ℕ → List ℕ → List (List ℕ) → ℕ × List (List ℕ)

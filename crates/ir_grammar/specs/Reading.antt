@@ -26,6 +26,10 @@ ReadsWithinLimits bytes m = ReadsPieces stated (pieces bytes) m
 abbrev pub IsReadable : modules.Module → Type 0
 IsReadable m = (bytes : List ℕ) × (read : modules.Module) × All (λ b. b < 256) bytes × Reads bytes read × AreSameButForPlaces read m
 
+-- some text of bytes within the limits is
+abbrev pub IsReadableWithinLimits : modules.Module → Type 0
+IsReadableWithinLimits m = (bytes : List ℕ) × (read : modules.Module) × All (λ b. b < 256) bytes × ReadsWithinLimits bytes read × AreSameButForPlaces read m
+
 -- some accepted text begins with these pieces
 abbrev pub IsFront : List Piece → Type 0
 IsFront u = (n : ℕ) × (v : List Piece) × (m : modules.Module) × ReadsPieces (unlimited n) (u ++ v) m

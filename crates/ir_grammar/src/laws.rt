@@ -6,7 +6,7 @@ ghost use Rattle.ir_grammar.specs.Names.{Names};
 ghost use Rattle.ir_grammar.specs.Pieces.{Piece, Is, pieces};
 ghost use Rattle.ir_grammar.specs.Forms.{Left, Fault, Refused, Exceeds};
 ghost use Rattle.ir_grammar.specs.Tokens.{unlimited};
-ghost use Rattle.ir_grammar.specs.Reading.{ReadsPieces, Reads, ReadsWithinLimits, IsReadable, IsFront, FirstRefused, ExceedsAt, read};
+ghost use Rattle.ir_grammar.specs.Reading.{ReadsPieces, Reads, ReadsWithinLimits, IsReadable, IsReadableWithinLimits, IsFront, FirstRefused, ExceedsAt, read};
 
 /// A text is that of one module at most, with limits and without them.
 pub fn a_text_has_one_module()
@@ -26,9 +26,10 @@ pub fn limits_leave_the_module()
     ensures levels { (bytes : List ℕ) (n : ℕ) (m : modules.Module) → ReadsPieces (unlimited n) (pieces bytes) m → Reads bytes m }
 {}
 
-/// A text of bytes that is read is that of a readable module.
+/// A text of bytes that is read is that of a readable module, also within the limits.
 pub fn a_read_module_is_readable()
-    ensures { (bytes : List ℕ) (m : modules.Module) → All (λ b. b < 256) bytes → ReadsWithinLimits bytes m → IsReadable m }
+    ensures readable { (bytes : List ℕ) (m : modules.Module) → All (λ b. b < 256) bytes → ReadsWithinLimits bytes m → IsReadable m }
+    ensures within { (bytes : List ℕ) (m : modules.Module) → All (λ b. b < 256) bytes → ReadsWithinLimits bytes m → IsReadableWithinLimits m }
 {}
 
 /// What is refused is the first piece with which no accepted text goes on, whatever the limits. A text has one such piece

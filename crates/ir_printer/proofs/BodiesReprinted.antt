@@ -13,7 +13,7 @@ use Rattle.ir_grammar.specs.declared.parts.Progress.{Progress}
 use Rattle.ir_grammar.specs.Pieces.{Piece}
 use Rattle.ir_grammar.specs.Names.{Names}
 use Rattle.ir_grammar.specs.Forms.{Form, ret, ◌>>=◌}
-use Rattle.ir_grammar.specs.Tokens.{Limits, unlimited, sign}
+use Rattle.ir_grammar.specs.Tokens.{Limits, sign}
 use Rattle.ir_grammar.specs.Values.{value}
 use Rattle.ir_grammar.specs.Attributes.{notes}
 use Rattle.ir_grammar.specs.Bodies.{block_of, grown, block, valued, settled, next_block, next_set, all_blocks, last_blocks, more_blocks, body}
@@ -102,21 +102,21 @@ reprinted_mapped inside n f h s a t ms m = record {
 abbrev value_alone : Limits → Form Operand
 value_alone l = value l >>= λ v. notes >>= λ e. ret v
 
-prints_value_alone : {n : Tables} → IndexedTables n → (k : ℕ) → Prints true n (value_alone (unlimited k)) (value (unlimited k)) [] value_marks
-prints_value_alone {n = n} i k = prints_in (prints_then {g2 = λ (v : Operand). ret v} (prints_value i k) (λ (v : Operand). prints_drop notes quiet_notes (prints_done refl))) back
+prints_value_alone : {n : Tables} → IndexedTables n → (l : Limits) → Prints true n (value_alone l) (value l) [] value_marks
+prints_value_alone {n = n} i l = prints_in (prints_then {g2 = λ (v : Operand). ret v} (prints_value i l) (λ (v : Operand). prints_drop notes quiet_notes (prints_done refl))) back
   where
-    back : (s : Names) (u : List Piece) (v : Operand) (t : Names) → (value (unlimited k) >>= λ x. ret x).reads s u v t → (value (unlimited k)).reads s u v t
+    back : (s : Names) (u : List Piece) (v : Operand) (t : Names) → (value l >>= λ x. ret x).reads s u v t → (value l).reads s u v t
     back s u v t r =
         let whole : u ≡ r.2 = r.4 ∙ ap (λ (w : List Piece). r.2 ++ w) r.6.0 ∙ append-nil r.2 in
-        subst (λ (w : List Piece). (value (unlimited k)).reads s w v t) (sym whole) (subst (λ (x : Operand × Names). (value (unlimited k)).reads s r.2 x.0 x.1) r.6.1 r.5)
+        subst (λ (w : List Piece). (value l).reads s w v t) (sym whole) (subst (λ (x : Operand × Names). (value l).reads s r.2 x.0 x.1) r.6.1 r.5)
 
 -- ---- one round
 
-module _ (n : Tables) (i : IndexedTables n) (k : ℕ) (code_in : PrintsCode n k) where
+module _ (n : Tables) (i : IndexedTables n) (l : Limits) (code_in : PrintsCode n l) where
   abbrev One : Names → List Piece → Progress → Progress → Names → Type 0
-  One s u q p1 t = Round true n (λ (x : Progress). printed_next (unlimited k) x) so_far Stands s u q p1 t
+  One s u q p1 t = Round true n (λ (x : Progress). printed_next l x) so_far Stands s u q p1 t
 
-  block_round : (bs : List Block) (q : Progress) (s : Names) (u : List Piece) (p1 : Progress) (t : Names) → map unplaced_block bs ≡ all_blocks q.done q.waits → IsPrintedBlock n k bs s u p1 t → One s u q p1 t
+  block_round : (bs : List Block) (q : Progress) (s : Names) (u : List Piece) (p1 : Progress) (t : Names) → map unplaced_block bs ≡ all_blocks q.done q.waits → IsPrintedBlock n l bs s u p1 t → One s u q p1 t
   block_round bs q s u p1 t e h =
       let b = lines_image h.lines in
       let cs = all_blocks q.done q.waits in
@@ -128,19 +128,19 @@ module _ (n : Tables) (i : IndexedTables n) (k : ℕ) (code_in : PrintsCode n k)
         prints = λ front sound. (let m = h.prints front sound in (
           m.0,
           more_marks cs b ∙ ap (λ (ms : List Mark). so_far q ++ ms) m.1,
-          reprinted_in true n (printed_block (unlimited k) >>= λ b. ret (with_block (all_blocks q.done q.waits) b)) (printed_next (unlimited k) q) (λ s2 us x t2 r. inl r) s (with_block cs b) t m.0
-              (reprinted_mapped true n (printed_block (unlimited k)) (λ (x : Block). with_block cs x) s b t m.0 m.2),
+          reprinted_in true n (printed_block l >>= λ b. ret (with_block (all_blocks q.done q.waits) b)) (printed_next l q) (λ s2 us x t2 r. inl r) s (with_block cs b) t m.0
+              (reprinted_mapped true n (printed_block l) (λ (x : Block). with_block cs x) s b t m.0 m.2),
         ));
       }
 
-  value_round : (bs : List Block) (b : Block) (q : Progress) (s : Names) (u : List Piece) (p1 : Progress) (t : Names) → Waits bs (Some b) q → (noted_value (unlimited k) bs b).reads s u p1 t → One s u q p1 t
+  value_round : (bs : List Block) (b : Block) (q : Progress) (s : Names) (u : List Piece) (p1 : Progress) (t : Names) → Waits bs (Some b) q → (noted_value l bs b).reads s u p1 t → One s u q p1 t
   value_round bs b q s u p1 t w r =
       let cs = map unplaced_block bs in
       let d = unplaced_block b in
       let v = r.0 in
       let told : settled bs b v ≡ p1 = ap (λ (x : Progress × Names). x.0) r.6.6.1 in
-      let alone : (value_alone (unlimited k)).reads s u v t = (v, r.1, r.2, r.3, r.4, r.5, (r.6.0, r.6.1, r.6.2, r.6.3, r.6.4, r.6.5, (r.6.6.0, ap (λ (x : Progress × Names). (v, x.1)) r.6.6.1))) in
-      let h = prints_value_alone i k in
+      let alone : (value_alone l).reads s u v t = (v, r.1, r.2, r.3, r.4, r.5, (r.6.0, r.6.1, r.6.2, r.6.3, r.6.4, r.6.5, (r.6.6.0, ap (λ (x : Progress × Names). (v, x.1)) r.6.6.1))) in
+      let h = prints_value_alone i l in
       record {
         state = settled cs d v;
         stands = subst (λ (x : Progress). Stands x (settled cs d v)) told (settled_stands bs b v);
@@ -149,18 +149,18 @@ module _ (n : Tables) (i : IndexedTables n) (k : ℕ) (code_in : PrintsCode n k)
         prints = λ front sound. (let m = h.prints s u v t alone front sound in (
           m.0,
           settled_marks cs d v w.1 ∙ ap (λ (x : Progress). so_far x ++ value_marks v) (sym w.0) ∙ ap (λ (ms : List Mark). so_far q ++ ms) m.1,
-          subst (λ (x : Progress). IsReprinted true n (printed_next (unlimited k) x) s (settled cs d v) t m.0) (sym w.0)
-              (reprinted_in true n (printed_value (unlimited k) cs (Some d)) (printed_next (unlimited k) (record { done = cs; waits = Some d })) (λ s2 us x t2 y. inr y) s (settled cs d v) t m.0
-              (reprinted_mapped true n (value (unlimited k)) (λ (x : Operand). settled cs d x) s v t m.0 m.2)),
+          subst (λ (x : Progress). IsReprinted true n (printed_next l x) s (settled cs d v) t m.0) (sym w.0)
+              (reprinted_in true n (printed_value l cs (Some d)) (printed_next l (record { done = cs; waits = Some d })) (λ s2 us x t2 y. inr y) s (settled cs d v) t m.0
+              (reprinted_mapped true n (value l) (λ (x : Operand). settled cs d x) s v t m.0 m.2)),
         ));
       }
 
-  next_round : (bs : List Block) (o : Option Block) (q : Progress) (s : Names) (u : List Piece) (p1 : Progress) (t : Names) → Stands (record { done = bs; waits = o }) q → (next_block (unlimited k) bs o).reads s u p1 t → One s u q p1 t
-  next_round bs None q s u p1 t stands r = block_round bs q s u p1 t stands.0 (block_printed n i k code_in bs s u p1 t r)
-  next_round bs (Some b) q s u p1 t stands r = at (behind_is (unlimited k) bs b s u p1 t r)
+  next_round : (bs : List Block) (o : Option Block) (q : Progress) (s : Names) (u : List Piece) (p1 : Progress) (t : Names) → Stands (record { done = bs; waits = o }) q → (next_block l bs o).reads s u p1 t → One s u q p1 t
+  next_round bs None q s u p1 t stands r = block_round bs q s u p1 t stands.0 (block_printed n i l code_in bs s u p1 t r)
+  next_round bs (Some b) q s u p1 t stands r = at (behind_is l bs b s u p1 t r)
     where
-      at : (block (unlimited k) (bs ++ b ∷ [])).reads s u p1 t ⊎ (noted_value (unlimited k) bs b).reads s u p1 t → One s u q p1 t
-      at (inl x) = block_round (bs ++ b ∷ []) q s u p1 t stands.0 (block_printed n i k code_in (bs ++ b ∷ []) s u p1 t x)
+      at : (block l (bs ++ b ∷ [])).reads s u p1 t ⊎ (noted_value l bs b).reads s u p1 t → One s u q p1 t
+      at (inl x) = block_round (bs ++ b ∷ []) q s u p1 t stands.0 (block_printed n i l code_in (bs ++ b ∷ []) s u p1 t x)
       at (inr x) = value_round bs b q s u p1 t stands.1 x
 
   last_marks : (cs : List Block) → body_marks cs ≡ ((marks.Spaced signs.OpenCurly ∷ flat_map block_marks cs) ++ marks.Line ∷ []) ++ marks.Spaced signs.CloseCurly ∷ []
@@ -171,24 +171,24 @@ module _ (n : Tables) (i : IndexedTables n) (k : ℕ) (code_in : PrintsCode n k)
       as_line marks.Line refl (as_next (prints_expect (sign 125) (marks.Spaced signs.CloseCurly) (tokens.Sign 125) refl tt refl refl) (λ (c : Unit {0}).
       as_done stands.0 (last_marks (all_blocks q.done q.waits))))
 
-  prints_blocks : (p q : Progress) → Stands p q → PrintsAs true n (map unplaced_block) (more_blocks (unlimited k) p) (printed_blocks (unlimited k) q) (so_far q) body_marks
+  prints_blocks : (p q : Progress) → Stands p q → PrintsAs true n (map unplaced_block) (more_blocks l p) (printed_blocks l q) (so_far q) body_marks
   unfolding more_blocks
   prints_blocks p q stands =
-      as_rounds (λ (x : Progress). next_block (unlimited k) x.done x.waits) (λ (x : Progress). last_blocks x) (λ (x : Progress). printed_next (unlimited k) x) (λ (x : Progress). last_blocks x)
+      as_rounds (λ (x : Progress). next_block l x.done x.waits) (λ (x : Progress). last_blocks x) (λ (x : Progress). printed_next l x) (λ (x : Progress). last_blocks x)
       (λ (x : Progress). next_set x.waits) (λ (x : Progress). next_set x.waits) so_far Stands
       (λ x y s u x1 t h r. inr (next_round x.done x.waits y s u x1 t h r)) prints_last p q stands
 
   abbrev Behind : Names → List Piece → List Block → Names → Type 0
-  Behind s u bs t = (block (unlimited k) [] >>= λ p. more_blocks (unlimited k) p).reads s u bs t
+  Behind s u bs t = (block l [] >>= λ p. more_blocks l p).reads s u bs t
 
   abbrev printed_behind : Form (List Block)
-  printed_behind = printed_block (unlimited k) >>= λ b. printed_blocks (unlimited k) (with_block [] b)
+  printed_behind = printed_block l >>= λ b. printed_blocks l (with_block [] b)
 
-  first_block : (s : Names) (u : List Piece) (bs : List Block) (t : Names) → (r : Behind s u bs t) → IsPrintedBlock n k [] s r.2 r.0 r.1
-  first_block s u bs t r = block_printed n i k code_in [] s r.2 r.0 r.1 r.5
+  first_block : (s : Names) (u : List Piece) (bs : List Block) (t : Names) → (r : Behind s u bs t) → IsPrintedBlock n l [] s r.2 r.0 r.1
+  first_block s u bs t r = block_printed n i l code_in [] s r.2 r.0 r.1 r.5
 
   -- the printed state behind the first block
-  behind_first : (s : Names) (u : List Piece) (bs : List Block) (t : Names) → (r : Behind s u bs t) → PrintsAs true n (map unplaced_block) (more_blocks (unlimited k) r.0) (printed_blocks (unlimited k) (with_block [] (lines_image (first_block s u bs t r).lines))) (so_far (with_block [] (lines_image (first_block s u bs t r).lines))) body_marks
+  behind_first : (s : Names) (u : List Piece) (bs : List Block) (t : Names) → (r : Behind s u bs t) → PrintsAs true n (map unplaced_block) (more_blocks l r.0) (printed_blocks l (with_block [] (lines_image (first_block s u bs t r).lines))) (so_far (with_block [] (lines_image (first_block s u bs t r).lines))) body_marks
   behind_first s u bs t r =
       let h = first_block s u bs t r in
       prints_blocks r.0 (with_block [] (lines_image h.lines)) (subst (λ (x : Progress). Stands x (with_block [] (lines_image h.lines))) h.told (grown_stands [] [] h.lines.bare (block_of h.place h.lines) refl h.bare))
@@ -203,19 +203,19 @@ module _ (n : Tables) (i : IndexedTables n) (k : ℕ) (code_in : PrintsCode n k)
       let more = m.prints r.1 r.3 bs t r.6 front (sound_last r.2 r.3 sound) in (
         one.0 ++ more.0,
         more.1 ∙ ap (λ (ms : List Mark). ms ++ more.0) (more_marks [] b) ∙ ap (λ (ms : List Mark). marks.Spaced signs.OpenCurly ∷ (ms ++ more.0)) one.1,
-        reprinted_then true n (printed_block (unlimited k)) (λ (x : Block). printed_blocks (unlimited k) (with_block [] x)) s b r.1 (map unplaced_block bs) t one.0 more.0 one.2 more.2,
+        reprinted_then true n (printed_block l) (λ (x : Block). printed_blocks l (with_block [] x)) s b r.1 (map unplaced_block bs) t one.0 more.0 one.2 more.2,
       )
 
-  prints_behind : PrintsAs true n (map unplaced_block) (block (unlimited k) [] >>= λ p. more_blocks (unlimited k) p) printed_behind (marks.Spaced signs.OpenCurly ∷ []) body_marks
+  prints_behind : PrintsAs true n (map unplaced_block) (block l [] >>= λ p. more_blocks l p) printed_behind (marks.Spaced signs.OpenCurly ∷ []) body_marks
   prints_behind = record {
     indexed = λ s u bs t r x. (behind_first s u bs t r).indexed r.1 r.3 bs t r.6 ((first_block s u bs t r).indexed x);
     fronts = λ s u bs t r x. (first_block s u bs t r).fronts ((behind_first s u bs t r).fronts r.1 r.3 bs t r.6 x);
     prints = λ s u bs t r front sound. behind_printed s u bs t r front (subst AreSound r.4 sound);
   }
 
-  prints_whole : PrintsBody n k
+  prints_whole : PrintsBody n l
   unfolding body
   prints_whole = as_next (prints_expect (sign 123) (marks.Spaced signs.OpenCurly) (tokens.Sign 123) refl tt refl refl) (λ (o : Unit {0}). prints_behind)
 
-pub prints_body : {n : Tables} → IndexedTables n → (k : ℕ) → PrintsCode n k → PrintsBody n k
-prints_body {n = n} i k code_in = prints_whole n i k code_in
+pub prints_body : {n : Tables} → IndexedTables n → (l : Limits) → PrintsCode n l → PrintsBody n l
+prints_body {n = n} i l code_in = prints_whole n i l code_in

@@ -16,7 +16,7 @@ use Rattle.ir_grammar.specs.declared.parts.Progress.{Progress}
 use Rattle.ir_grammar.specs.Pieces.{Piece}
 use Rattle.ir_grammar.specs.Names.{Names, local}
 use Rattle.ir_grammar.specs.Forms.{Form, ◌>>=◌, Rounds, place_of}
-use Rattle.ir_grammar.specs.Tokens.{Limits, unlimited}
+use Rattle.ir_grammar.specs.Tokens.{Limits}
 use Rattle.ir_grammar.specs.Values.{gep, constant, const_at, local_value, value}
 use Rattle.ir_grammar.specs.Bodies.{finish, lines, labelled, block_of, grown, block, valued, settled, local_behind, gep_behind, value_behind, other_block, behind_void, next_block, all_blocks, last_blocks, more_blocks, body}
 use Rattle.ir_printer.proofs.QuietForms.{silent_notes}
@@ -73,23 +73,23 @@ module _ (l : Limits) (bs : List Block) (b : Block) where
 
 -- ---- blocks
 
-module _ (k : ℕ) (code_in : RereadsCode k) where
+module _ (l : Limits) (code_in : RereadsCode l) where
   -- lines of the grammar without places
   abbrev Read : Form Lines → Names → List Piece → Block → Names → Type 0
   Read g s u x t = (y : Lines) × g.reads s u y t × (lines_image y ≡ x) × (y.bare ≡ is_bare y.end)
 
-  rereads_lines : (b : LocalId) (s : Names) (u : List Piece) (x : Block) (t : Names) → (printed_lines (unlimited k) b).reads s u x t → Read (lines (unlimited k) b []) s u x t
+  rereads_lines : (b : LocalId) (s : Names) (u : List Piece) (x : Block) (t : Names) → (printed_lines l b).reads s u x t → Read (lines l b []) s u x t
   unfolding lines finish
   rereads_lines b s u x t r =
       let c = code_in [] s r.2 r.0 r.1 r.5 in
-      let e = mapped (printed_end (unlimited k)) (λ (y : End). record { place = nowhere; label = b; code = r.0; end = y; end_place = nowhere }) r.1 r.3 x t r.6 in (
+      let e = mapped (printed_end l) (λ (y : End). record { place = nowhere; label = b; code = r.0; end = y; end_place = nowhere }) r.1 r.3 x t r.6 in (
         record { label = b; code = c.0; end = e.0; end_place = place_of r.3; bare = is_bare e.0 },
-        (c.0, r.1, r.2, r.3, r.4, c.1, ((place_of r.3, (e.0, is_bare e.0)), t, r.3, [], sym (append-nil r.3), (refl, printed_end_in k r.1 r.3 e.0 t e.1), (refl, refl))),
+        (c.0, r.1, r.2, r.3, r.4, c.1, ((place_of r.3, (e.0, is_bare e.0)), t, r.3, [], sym (append-nil r.3), (refl, printed_end_in l r.1 r.3 e.0 t e.1), (refl, refl))),
         ap (λ (is : List Instr). record { place = nowhere; label = b; code = is; end = e.0; end_place = nowhere }) c.2 ∙ e.2,
         refl,
       )
 
-  rereads_block : (s : Names) (u : List Piece) (x : Block) (t : Names) → (printed_block (unlimited k)).reads s u x t → Read (labelled (unlimited k)) s u x t
+  rereads_block : (s : Names) (u : List Piece) (x : Block) (t : Names) → (printed_block l).reads s u x t → Read (labelled l) s u x t
   unfolding labelled
   rereads_block s u x t r =
       let q = r.6 in
@@ -105,49 +105,49 @@ module _ (k : ℕ) (code_in : RereadsCode k) where
       grown_image bs y.bare (block_of p y) ∙ ap (λ (w : Bool). grown (map unplaced_block bs) w (lines_image y)) g
       ∙ ap (λ (xs : List Block). with_block xs (lines_image y)) d ∙ ap (λ (z : Block). with_block cs z) e ∙ h
 
-  rereads_next : (bs : List Block) (o : Option Block) (s : Names) (u : List Piece) (q : Progress) (t : Names) → (printed_next (unlimited k) (unplaced_progress (record { done = bs; waits = o }))).reads s u q t → Next (next_block (unlimited k) bs o) s u q t
+  rereads_next : (bs : List Block) (o : Option Block) (s : Names) (u : List Piece) (q : Progress) (t : Names) → (printed_next l (unplaced_progress (record { done = bs; waits = o }))).reads s u q t → Next (next_block l bs o) s u q t
   unfolding block behind_void other_block
   rereads_next bs None s u q t (inl r) =
-      let m = mapped (printed_block (unlimited k)) (λ (x : Block). with_block (map unplaced_block bs) x) s u q t r in
+      let m = mapped (printed_block l) (λ (x : Block). with_block (map unplaced_block bs) x) s u q t r in
       let h = rereads_block s u m.0 t m.1 in
       (grown bs h.0.bare (block_of (place_of u) h.0), ((place_of u, h.0), t, u, [], sym (append-nil u), (refl, inl h.1), (refl, refl)), one_image bs (map unplaced_block bs) (place_of u) h.0 m.0 q refl h.2 h.3 m.2)
   rereads_next bs None s u q t (inr r) = absurd cc
   rereads_next bs (Some b) s u q t (inl r) =
       let cs = map unplaced_block bs ++ unplaced_block b ∷ [] in
-      let m = mapped (printed_block (unlimited k)) (λ (x : Block). with_block cs x) s u q t r in
+      let m = mapped (printed_block l) (λ (x : Block). with_block cs x) s u q t r in
       let h = rereads_block s u m.0 t m.1 in (
         grown (bs ++ b ∷ []) h.0.bare (block_of (place_of u) h.0),
         inr (inr (inr ((place_of u, h.0), t, u, [], sym (append-nil u), (refl, inl h.1), (refl, refl)))),
         one_image (bs ++ b ∷ []) cs (place_of u) h.0 m.0 q (map-append unplaced_block bs (b ∷ [])) h.2 h.3 m.2,
       )
   rereads_next bs (Some b) s u q t (inr r) =
-      let m = mapped (value (unlimited k)) (λ (v : Operand). settled (map unplaced_block bs) (unplaced_block b) v) s u q t r in
-      (settled bs b m.0, value_behind_void (unlimited k) bs b s u m.0 t m.1, settled_image bs b m.0 ∙ m.2)
+      let m = mapped (value l) (λ (v : Operand). settled (map unplaced_block bs) (unplaced_block b) v) s u q t r in
+      (settled bs b m.0, value_behind_void l bs b s u m.0 t m.1, settled_image bs b m.0 ∙ m.2)
 
   -- ---- bodies
 
   abbrev Blocks : ℕ → Progress → Names → List Piece → List Block → Names → Type 0
-  Blocks n p s u xs t = Rounds (λ (x : Progress). next_block (unlimited k) x.done x.waits) (λ (x : Progress). last_blocks x) n p s u xs t
+  Blocks n p s u xs t = Rounds (λ (x : Progress). next_block l x.done x.waits) (λ (x : Progress). last_blocks x) n p s u xs t
 
-  rereads_rounds : (n : ℕ) (p : Progress) (s : Names) (u : List Piece) (xs : List Block) (t : Names) → Rounds (λ (x : Progress). printed_next (unlimited k) x) (λ (x : Progress). last_blocks x) n (unplaced_progress p) s u xs t → (more : List Block) × Blocks n p s u more t × (map unplaced_block more ≡ xs)
+  rereads_rounds : (n : ℕ) (p : Progress) (s : Names) (u : List Piece) (xs : List Block) (t : Names) → Rounds (λ (x : Progress). printed_next l x) (λ (x : Progress). last_blocks x) n (unplaced_progress p) s u xs t → (more : List Block) × Blocks n p s u more t × (map unplaced_block more ≡ xs)
   rereads_rounds zero p s u xs t r = (all_blocks p.done p.waits, (r.0, r.1, r.2, r.3, r.4, r.5, (r.6.0, ap (λ (y : List Block × Names). (all_blocks p.done p.waits, y.1)) r.6.1)), all_image p.done p.waits ∙ ap (λ (y : List Block × Names). y.0) r.6.1)
   rereads_rounds (suc n) p s u xs t r =
       let m = rereads_next p.done p.waits s r.2 r.0 r.1 r.5 in
-      let more = rereads_rounds n m.0 r.1 r.3 xs t (subst (λ (q : Progress). Rounds (λ (x : Progress). printed_next (unlimited k) x) (λ (x : Progress). last_blocks x) n q r.1 r.3 xs t) (sym m.2) r.6) in
+      let more = rereads_rounds n m.0 r.1 r.3 xs t (subst (λ (q : Progress). Rounds (λ (x : Progress). printed_next l x) (λ (x : Progress). last_blocks x) n q r.1 r.3 xs t) (sym m.2) r.6) in
       (more.0, (m.0, r.1, r.2, r.3, r.4, m.1, more.1), more.2)
 
-  rereads_behind : (s : Names) (u : List Piece) (xs : List Block) (t : Names) → (printed_block (unlimited k) >>= λ b. printed_blocks (unlimited k) (with_block [] b)).reads s u xs t → (more : List Block) × (block (unlimited k) [] >>= λ p. more_blocks (unlimited k) p).reads s u more t × (map unplaced_block more ≡ xs)
+  rereads_behind : (s : Names) (u : List Piece) (xs : List Block) (t : Names) → (printed_block l >>= λ b. printed_blocks l (with_block [] b)).reads s u xs t → (more : List Block) × (block l [] >>= λ p. more_blocks l p).reads s u more t × (map unplaced_block more ≡ xs)
   unfolding block more_blocks
   rereads_behind s u xs t r =
       let h = rereads_block s r.2 r.0 r.1 r.5 in
       let p = grown [] h.0.bare (block_of (place_of r.2) h.0) in
       let same : unplaced_progress p ≡ with_block [] r.0 = one_image [] [] (place_of r.2) h.0 r.0 (with_block [] r.0) refl h.2 h.3 refl in
-      let more = rereads_rounds r.6.0 p r.1 r.3 xs t (subst (λ (q : Progress). Rounds (λ (x : Progress). printed_next (unlimited k) x) (λ (x : Progress). last_blocks x) r.6.0 q r.1 r.3 xs t) (sym same) r.6.1) in
+      let more = rereads_rounds r.6.0 p r.1 r.3 xs t (subst (λ (q : Progress). Rounds (λ (x : Progress). printed_next l x) (λ (x : Progress). last_blocks x) r.6.0 q r.1 r.3 xs t) (sym same) r.6.1) in
       (more.0, (p, r.1, r.2, r.3, r.4, ((place_of r.2, h.0), r.1, r.2, [], sym (append-nil r.2), (refl, inl h.1), (refl, refl)), (r.6.0, more.1)), more.2)
 
-  rereads_whole : RereadsBody k
+  rereads_whole : RereadsBody l
   unfolding body
   rereads_whole s u xs t r = let m = rereads_behind r.1 r.3 xs t r.6 in (m.0, (r.0, r.1, r.2, r.3, r.4, r.5, m.1), m.2)
 
-pub rereads_body : (k : ℕ) → RereadsCode k → RereadsBody k
-rereads_body k code_in = rereads_whole k code_in
+pub rereads_body : (l : Limits) → RereadsCode l → RereadsBody l
+rereads_body l code_in = rereads_whole l code_in

@@ -14,7 +14,7 @@ use Rattle.ir_grammar.specs.declared.parts.Marks.{Marks}
 use Rattle.ir_grammar.specs.Pieces.{Piece}
 use Rattle.ir_grammar.specs.Names.{Names, numbered, symbol, local, next_behind, define, define_next}
 use Rattle.ir_grammar.specs.Forms.{Form, act, ret, token, ◌>>=◌, choose}
-use Rattle.ir_grammar.specs.Tokens.{Limits, unlimited, expect, text}
+use Rattle.ir_grammar.specs.Tokens.{Limits, expect, text}
 use Rattle.ir_grammar.specs.Types.{type_form}
 use Rattle.ir_grammar.specs.Attributes.{no_marks}
 use Rattle.ir_grammar.specs.Operations.{tail_word, call_head, call_end, is_lifetime, callee_if, callee_of, callee, arguments, named_call, op, Line, result_of, called, keep_types, types_so_far, lifetime, unnamed_call}
@@ -37,7 +37,7 @@ next_line l = act define_next >>= λ r. op l >>= λ o. ret (Some r, o)
 -- ---- the parts of a call
 
 -- what was read of a call without a name that is not skipped, part by part
-record IsCall (k : ℕ) (s : Names) (u : List Piece) (ty : IrType) (f : SymId) (r : Option LocalId) (as' : List TypedOperand) (t : Names) : Type 0 where
+record IsCall (l : Limits) (s : Names) (u : List Piece) (ty : IrType) (f : SymId) (r : Option LocalId) (as' : List TypedOperand) (t : Names) : Type 0 where
   name : List ℕ
   headed : Names
   typed : Names
@@ -51,18 +51,18 @@ record IsCall (k : ℕ) (s : Names) (u : List Piece) (ty : IrType) (f : SymId) (
   u5 : List Piece
   pieces : u ≡ u1 ++ (u2 ++ (u3 ++ (u4 ++ u5)))
   head : call_head.reads s u1 tt headed
-  ty_read : (type_form (unlimited k)).reads headed u2 ty typed
+  ty_read : (type_form l).reads headed u2 ty typed
   name_read : (token callee_of).reads typed u3 name typed
   symbol_is : symbol name typed ≡ (f, named)
   result_is : result_of ty named ≡ (r, given)
-  args : (arguments (unlimited k)).reads given u4 as' argued
+  args : (arguments l).reads given u4 as' argued
   end : call_end.reads argued u5 tt t
 
 -- ---- a call of `void`
 
-void_called : (k : ℕ) (s : Names) (u : List Piece) (f : SymId) (r : Option LocalId) (as' : List TypedOperand) (t : Names) → IsCall k s u Void f r as' t → (void_call (unlimited k)).reads s u (r, ops.Call Void f as') t
+void_called : (l : Limits) (s : Names) (u : List Piece) (f : SymId) (r : Option LocalId) (as' : List TypedOperand) (t : Names) → IsCall l s u Void f r as' t → (void_call l).reads s u (r, ops.Call Void f as') t
 unfolding callee
-void_called k s u f r as' t c =
+void_called l s u f r as' t c =
     let same : c.named ≡ c.given = ap (λ (x : Option LocalId × Names). x.1) c.result_is in
     let none : None ≡ r = ap (λ (x : Option LocalId × Names). x.0) c.result_is in (
       tt,
@@ -77,7 +77,7 @@ void_called k s u f r as' t c =
         c.u2,
         c.u3 ++ (c.u4 ++ c.u5),
         refl,
-        void_is_word k c.headed c.u2 c.typed c.ty_read,
+        void_is_word l c.headed c.u2 c.typed c.ty_read,
         (
           f,
           c.named,
@@ -91,7 +91,7 @@ void_called k s u f r as' t c =
             c.u4,
             c.u5,
             refl,
-            subst (λ (x : Names). (arguments (unlimited k)).reads x c.u4 as' c.argued) (sym same) c.args,
+            subst (λ (x : Names). (arguments l).reads x c.u4 as' c.argued) (sym same) c.args,
             (tt, t, c.u5, [], sym (append-nil c.u5), c.end, (refl, ap (λ (x : Option LocalId). ((x, ops.Call Void f as'), t)) none)),
           ),
         ),
@@ -125,13 +125,13 @@ unfolding define_next define local
 next_names s = refl
 
 -- the result may come first: no part before it speaks of local names
-valued_called : (k : ℕ) (s : Names) (u : List Piece) (ty : IrType) (f : SymId) (r : Option LocalId) (as' : List TypedOperand) (t : Names) → IsValued ty → IsCall k s u ty f r as' t → (next_line (unlimited k)).reads s u (r, ops.Call ty f as') t
+valued_called : (l : Limits) (s : Names) (u : List Piece) (ty : IrType) (f : SymId) (r : Option LocalId) (as' : List TypedOperand) (t : Names) → IsValued ty → IsCall l s u ty f r as' t → (next_line l).reads s u (r, ops.Call ty f as') t
 unfolding op named_call callee
-valued_called k s u ty f r as' t v c =
+valued_called l s u ty f r as' t v c =
     let locals = (define_next s).1.locals in
     let next = (define_next s).1.next in
     let one = adds_locals s c.headed (free_call_head.adds s c.u1 tt c.headed c.head) in
-    let two = adds_locals c.headed c.typed ((free_type_form (unlimited k)).adds c.headed c.u2 ty c.typed c.ty_read) in
+    let two = adds_locals c.headed c.typed ((free_type_form l).adds c.headed c.u2 ty c.typed c.ty_read) in
     let three = symbol_locals c.name c.typed f c.named c.symbol_is in
     let given = ap (λ (x : LocalId × Names). (Some x.0, x.1)) (sym (next_moves s c.named (three.0 ∙ two.0 ∙ one.0) (three.1 ∙ two.1 ∙ one.1))) ∙ sym (v.result c.named) ∙ c.result_is in
     let same : with_locals locals next c.named ≡ c.given = ap (λ (x : Option LocalId × Names). x.1) given in
@@ -161,7 +161,7 @@ valued_called k s u ty f r as' t v c =
             c.u2,
             c.u3 ++ (c.u4 ++ c.u5),
             refl,
-            reads_valued k _ c.u2 ty _ v ((free_type_form (unlimited k)).moves c.headed c.u2 ty c.typed c.ty_read locals next),
+            reads_valued l _ c.u2 ty _ v ((free_type_form l).moves c.headed c.u2 ty c.typed c.ty_read locals next),
             (
               f,
               with_locals locals next c.named,
@@ -175,7 +175,7 @@ valued_called k s u ty f r as' t v c =
                 c.u4,
                 c.u5,
                 refl,
-                subst (λ (x : Names). (arguments (unlimited k)).reads x c.u4 as' c.argued) (sym same) c.args,
+                subst (λ (x : Names). (arguments l).reads x c.u4 as' c.argued) (sym same) c.args,
                 (tt, t, c.u5, [], sym (append-nil c.u5), c.end, (refl, refl)),
               ),
             ),
@@ -188,13 +188,13 @@ valued_called k s u ty f r as' t v c =
 -- ---- all calls
 
 -- what is said of a call without a name that was read
-abbrev pub IsRead : ℕ → Names → List Piece → Line → Names → Type 0
-IsRead k s u x t = (y : Option LocalId × Op) × (x ≡ Some y) × ((void_call (unlimited k)).reads s u y t ⊎ (next_line (unlimited k)).reads s u y t)
+abbrev pub IsRead : Limits → Names → List Piece → Line → Names → Type 0
+IsRead l s u x t = (y : Option LocalId × Op) × (x ≡ Some y) × ((void_call l).reads s u y t ⊎ (next_line l).reads s u y t)
 
 -- by its type
-one_read : (k : ℕ) (s : Names) (u : List Piece) (ty : IrType) (f : SymId) (r : Option LocalId) (as' : List TypedOperand) (t : Names) → IsCall k s u ty f r as' t → (ty ≡ Void) ⊎ IsValued ty → (void_call (unlimited k)).reads s u (r, ops.Call ty f as') t ⊎ (next_line (unlimited k)).reads s u (r, ops.Call ty f as') t
-one_read k s u ty f r as' t c (inl e) = inl (subst (λ (y : IrType). (void_call (unlimited k)).reads s u (r, ops.Call y f as') t) (sym e) (void_called k s u f r as' t (subst (λ (y : IrType). IsCall k s u y f r as' t) e c)))
-one_read k s u ty f r as' t c (inr v) = inr (valued_called k s u ty f r as' t v c)
+one_read : (l : Limits) (s : Names) (u : List Piece) (ty : IrType) (f : SymId) (r : Option LocalId) (as' : List TypedOperand) (t : Names) → IsCall l s u ty f r as' t → (ty ≡ Void) ⊎ IsValued ty → (void_call l).reads s u (r, ops.Call ty f as') t ⊎ (next_line l).reads s u (r, ops.Call ty f as') t
+one_read l s u ty f r as' t c (inl e) = inl (subst (λ (y : IrType). (void_call l).reads s u (r, ops.Call y f as') t) (sym e) (void_called l s u f r as' t (subst (λ (y : IrType). IsCall l s u y f r as' t) e c)))
+one_read l s u ty f r as' t c (inr v) = inr (valued_called l s u ty f r as' t v c)
 
 -- a skipped call takes back the type names
 skipped : (m : ℕ) (s : Names) (u : List Piece) (x : Line) (t : Names) → (lifetime m).reads s u x t → (x ≡ None) × (t ≡ (keep_types m s).1)
@@ -227,17 +227,17 @@ names_kept s1 s2 s3 s4 m e h g =
     let count : m ≡ length s2.types = ap (λ (y : ℕ × Names). y.0) (sym e) ∙ ap (λ (y : Names). length y.types) same in
     ap (λ (y : Names). (keep_types m y).1) (sym g) ∙ ap (λ (j : ℕ). (keep_types j s3).1) count ∙ types_kept s2 s3 h ∙ sym same
 
-pub reads_call : (k : ℕ) (s : Names) (u : List Piece) (x : Line) (t : Names) → (unnamed_call (unlimited k)).reads s u x t → ((x ≡ None) × (s ≡ t)) ⊎ IsRead k s u x t
+pub reads_call : (l : Limits) (s : Names) (u : List Piece) (x : Line) (t : Names) → (unnamed_call l).reads s u x t → ((x ≡ None) × (s ≡ t)) ⊎ IsRead l s u x t
 unfolding unnamed_call called
-reads_call k s u x t h = at (is_lifetime h.6.6.6.0) refl h.6.6.6.6.5
+reads_call l s u x t h = at (is_lifetime h.6.6.6.0) refl h.6.6.6.6.5
   where
-    at : (z : Bool) → is_lifetime h.6.6.6.0 ≡ z → (choose z (lifetime h.6.0) (called (unlimited k) h.6.6.0 h.6.6.6.0)).reads h.6.6.6.1 h.6.6.6.6.2 h.6.6.6.6.0 h.6.6.6.6.1 → ((x ≡ None) × (s ≡ t)) ⊎ IsRead k s u x t
+    at : (z : Bool) → is_lifetime h.6.6.6.0 ≡ z → (choose z (lifetime h.6.0) (called l h.6.6.0 h.6.6.6.0)).reads h.6.6.6.1 h.6.6.6.6.2 h.6.6.6.6.0 h.6.6.6.6.1 → ((x ≡ None) × (s ≡ t)) ⊎ IsRead l s u x t
     at true is r =
         let a = h.6 in let b = a.6 in let c = b.6 in let d = c.6 in let e = d.6 in
         let none = skipped a.0 c.1 d.2 d.0 d.1 r in
         let line : d.0 ≡ x = ap (λ (y : Line × Names). y.0) e.6.1 in
         let last : e.1 ≡ t = ap (λ (y : Line × Names). y.1) e.6.1 in
-        let kept = names_kept h.1 a.1 b.1 c.1 a.0 a.5.1 ((free_type_form (unlimited k)).adds a.1 b.2 b.0 b.1 b.5) c.5.3 in
+        let kept = names_kept h.1 a.1 b.1 c.1 a.0 a.5.1 ((free_type_form l).adds a.1 b.2 b.0 b.1 b.5) c.5.3 in
         inl (sym line ∙ none.0, quiet_call_head.same s h.2 h.0 h.1 h.5 ∙ sym kept ∙ sym none.1 ∙ quiet_call_end.same d.1 e.2 e.0 e.1 e.5 ∙ last)
     at false is r =
         let a = h.6 in let b = a.6 in let c = b.6 in let d = c.6 in let e = d.6 in
@@ -251,7 +251,7 @@ reads_call k s u x t h = at (is_lifetime h.6.6.6.0) refl h.6.6.6.6.5
         let inner = nothing_before d.2 r.2 r.3 r.4 r.5.0 ∙ nothing_before r.3 p.2 p.3 p.4 p.5.0 ∙ given in
         let ended = nothing_behind d.3 e.2 e.3 e.4 e.6.0 in
         let typed = nothing_before h.3 a.2 a.3 a.4 a.5.0 in
-        let is_call : IsCall k s u b.0 r.0 p.0 q.0 t = record {
+        let is_call : IsCall l s u b.0 r.0 p.0 q.0 t = record {
           name = c.0;
           headed = h.1;
           typed = b.1;
@@ -265,11 +265,11 @@ reads_call k s u x t h = at (is_lifetime h.6.6.6.0) refl h.6.6.6.6.5
           u5 = e.2;
           pieces = h.4 ∙ ap (λ (v : List Piece). h.2 ++ v) (typed ∙ b.4 ∙ ap (λ (v : List Piece). b.2 ++ v) (c.4 ∙ ap (λ (v : List Piece). c.2 ++ v) (d.4 ∙ ap (λ (v : List Piece). v ++ d.3) inner ∙ ap (λ (v : List Piece). q.2 ++ v) ended)));
           head = h.5;
-          ty_read = subst (λ (y : Names). (type_form (unlimited k)).reads y b.2 b.0 b.1) (sym headed) b.5;
+          ty_read = subst (λ (y : Names). (type_form l).reads y b.2 b.0 b.1) (sym headed) b.5;
           name_read = callee_read b.1 c.2 c.0 c.1 c.5 is;
           symbol_is = subst (λ (y : Names). symbol c.0 y ≡ (r.0, r.1)) (sym c.5.3) r.5.1;
           result_is = p.5.1;
           args = q.5;
           end = subst (λ (y : Names). call_end.reads y e.2 tt t) (sym argued) (subst (λ (y : Names). call_end.reads d.1 e.2 tt y) last e.5);
         } in
-        inr ((p.0, ops.Call b.0 r.0 q.0), sym line ∙ sym told, one_read k s u b.0 r.0 p.0 q.0 t is_call (void_or_valued b.0))
+        inr ((p.0, ops.Call b.0 r.0 q.0), sym line ∙ sym told, one_read l s u b.0 r.0 p.0 q.0 t is_call (void_or_valued b.0))

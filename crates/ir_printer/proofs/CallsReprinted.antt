@@ -9,7 +9,7 @@ use Rattle.ir_core.specs.declared.module.SymId.{SymId}
 use Rattle.ir_core.specs.declared.op.TypedOperand.{TypedOperand}
 use Rattle.ir_grammar.specs.declared.kinds.Barred.TheVariants as barred
 use Rattle.ir_grammar.specs.Forms.{Takes}
-use Rattle.ir_grammar.specs.Tokens.{unlimited, expect}
+use Rattle.ir_grammar.specs.Tokens.{Limits, expect}
 use Rattle.ir_grammar.specs.Values.{gep_word}
 use Rattle.ir_grammar.specs.Attributes.{no_marks, attribute_list}
 use Rattle.ir_grammar.specs.Operations.{tail_word, call_word, call_words, call_words_form, call_head, call_end, is_lifetime, callee_if, callee_of, callee, named_call, op}
@@ -75,16 +75,16 @@ silent_call_end s = (no_marks, s, [], [], refl, silent_attribute_list barred.Cod
 call_marks_are : (w f : Mark) (ts as' : List Mark) → w ∷ (ts ++ (f ∷ as')) ≡ (((w ∷ []) ++ ts) ++ f ∷ []) ++ as'
 call_marks_are w f ts as' = simp append_assoc
 
-pub prints_named_call : {n : Tables} → IndexedTables n → (k : ℕ) → Prints true n (named_call (unlimited k)) (named_call (unlimited k)) [] op_marks
+pub prints_named_call : {n : Tables} → IndexedTables n → (l : Limits) → Prints true n (named_call l) (named_call l) [] op_marks
 unfolding named_call
-prints_named_call i k =
+prints_named_call i l =
     prints_then prints_call_head (λ (h : Unit {0}).
-    prints_then (prints_value_type i k) (λ (t : IrType).
+    prints_then (prints_value_type i l) (λ (t : IrType).
     prints_then (prints_callee i) (λ (f : SymId).
-    prints_then (prints_arguments i k) (λ (as' : List TypedOperand).
+    prints_then (prints_arguments i l) (λ (as' : List TypedOperand).
     prints_past call_end tt quiet_call_end silent_call_end (prints_done (call_marks_are (marks.Word words.Call) (marks.Symbol f) (type_marks t) (in_round (map typed_marks as'))))))))
 
 -- an operation with a result that has a name
-pub prints_op : {n : Tables} → IndexedTables n → (k : ℕ) → Prints true n (op (unlimited k)) (op (unlimited k)) [] op_marks
+pub prints_op : {n : Tables} → IndexedTables n → (l : Limits) → Prints true n (op l) (op l) [] op_marks
 unfolding op
-prints_op i k = prints_either call_words (prints_named_call i k) (prints_either gep_word (prints_gep_op i k) (prints_other_op i k))
+prints_op i l = prints_either call_words (prints_named_call i l) (prints_either gep_word (prints_gep_op i l) (prints_other_op i l))

@@ -14,7 +14,7 @@ use Rattle.ir_grammar.specs.Pieces.{Piece}
 use Rattle.ir_grammar.specs.Names.{Names, type_name}
 use Rattle.ir_grammar.specs.Sets.{OfKind, kind_fits, kind_if, is_debug, are_digits}
 use Rattle.ir_grammar.specs.Forms.{Form, act, ret, Takes, Refuses, ◌>>=◌, located}
-use Rattle.ir_grammar.specs.Tokens.{unlimited, expect, sign, word, word_of, one_word, text_if, text_of, text}
+use Rattle.ir_grammar.specs.Tokens.{Limits, expect, sign, word, word_of, one_word, text_if, text_of, text}
 use Rattle.ir_grammar.specs.Types.{type_form}
 use Rattle.ir_grammar.specs.Entities.{equals, source_filename, target_word, target_words, target_of, target, attributes, group_of, metadata, type_def}
 use Rattle.ir_printer.specs.declared.words.Word.{Word}
@@ -77,8 +77,8 @@ IsFlat noinline x t = (printed_of noinline x ≡ Some (image_of noinline x)) × 
 any_front : (n : Tables) (locals : List (List ℕ)) (s : Names) → Front false n s → Front false (tables n.symbols n.types locals) s
 any_front n locals s front = (front.0, front.1, λ i. absurd cc)
 
-entity_reprinted : (n : Tables) (k : ℕ) (s : Names) (e : Entity) (t : Names) → locals_of e ≡ [] → IsReprinted false (tables n.symbols n.types []) (printed_entity (unlimited k)) s e t (entity_marks n.symbols e) → IsEntityReprinted n k s e t
-entity_reprinted n k s e t o h = record {
+entity_reprinted : (n : Tables) (l : Limits) (s : Names) (e : Entity) (t : Names) → locals_of e ≡ [] → IsReprinted false (tables n.symbols n.types []) (printed_entity l) s e t (entity_marks n.symbols e) → IsEntityReprinted n l s e t
+entity_reprinted n l s e t o h = record {
   fitting = ready_fits (counts s) ms h.ready;
   counted = ap known_of h.counted ∙ known_behind_marks (counts s) ms;
   spellable = subst (λ (xs : List (List ℕ)). AreSpellable (tables n.symbols n.types xs) ms) (sym o) h.spellable;
@@ -94,10 +94,10 @@ some_is : {A : Type 0} {o : Option A} {a b : A} → o ≡ Some a → o ≡ Some 
 some_is {A = A} {a = a} h g = ap (λ (o : Option A). unwrap_or o a) (sym h ∙ g)
 
 -- an entity without local names that was read
-pub read_flat : (n : Tables) (k : ℕ) (noinline : List (List ℕ)) (f : Form read_entities.Entity) (g : Form Entity) (all : Entity → List Mark) → PrintsAs false (tables n.symbols n.types []) (image_of noinline) f g [] all →
-    ((s : Names) (u : List Piece) (e : Entity) (t : Names) → g.reads s u e t → (printed_entity (unlimited k)).reads s u e t) →
-    (s : Names) (u : List Piece) (x : read_entities.Entity) (t : Names) → f.reads s u x t → IsFlat noinline x t → all (image_of noinline x) ≡ entity_marks n.symbols (image_of noinline x) → IsReadEntity n k noinline s u x t
-read_flat n k noinline f g all p into s u x t r flat same = record {
+pub read_flat : (n : Tables) (l : Limits) (noinline : List (List ℕ)) (f : Form read_entities.Entity) (g : Form Entity) (all : Entity → List Mark) → PrintsAs false (tables n.symbols n.types []) (image_of noinline) f g [] all →
+    ((s : Names) (u : List Piece) (e : Entity) (t : Names) → g.reads s u e t → (printed_entity l).reads s u e t) →
+    (s : Names) (u : List Piece) (x : read_entities.Entity) (t : Names) → f.reads s u x t → IsFlat noinline x t → all (image_of noinline x) ≡ entity_marks n.symbols (image_of noinline x) → IsReadEntity n l noinline s u x t
+read_flat n l noinline f g all p into s u x t r flat same = record {
   indexed = p.indexed s u x t r;
   fronts = λ front. any_front m n.locals s (p.fronts s u x t r (any_front n [] t front));
   left_out = λ h. absurd (none_some (image_of noinline x) (sym h ∙ flat.0));
@@ -110,15 +110,15 @@ read_flat n k noinline f g all p into s u x t r flat same = record {
     none_some : (e : Entity) → None ≡ Some e → ⊥
     none_some e h = absurd cc
 
-    made : (e : Entity) → image_of noinline x ≡ e → ((ms : List Mark) × (all (image_of noinline x) ≡ [] ++ ms) × IsReprinted false (tables n.symbols n.types []) g s (image_of noinline x) t ms) → IsEntityReprinted n k s e t
-    made e is q = subst (λ (y : Entity). IsEntityReprinted n k s y t) is
-        (entity_reprinted n k s (image_of noinline x) t flat.1 (reprinted_in false m g (printed_entity (unlimited k)) into s (image_of noinline x) t (entity_marks n.symbols (image_of noinline x))
+    made : (e : Entity) → image_of noinline x ≡ e → ((ms : List Mark) × (all (image_of noinline x) ≡ [] ++ ms) × IsReprinted false (tables n.symbols n.types []) g s (image_of noinline x) t ms) → IsEntityReprinted n l s e t
+    made e is q = subst (λ (y : Entity). IsEntityReprinted n l s y t) is
+        (entity_reprinted n l s (image_of noinline x) t flat.1 (reprinted_in false m g (printed_entity l) into s (image_of noinline x) t (entity_marks n.symbols (image_of noinline x))
         (subst (λ (ms : List Mark). IsReprinted false m g s (image_of noinline x) t ms) (sym q.1 ∙ same) q.2)))
 
 -- a form of entities that are left out
-read_nothing : (n : Tables) (k : ℕ) (noinline : List (List ℕ)) (f : Form read_entities.Entity) → Quiet f → Always (λ x t. printed_of noinline x ≡ None) f →
-    (s : Names) (u : List Piece) (x : read_entities.Entity) (t : Names) → f.reads s u x t → IsReadEntity n k noinline s u x t
-read_nothing n k noinline f quiet always s u x t r = record {
+read_nothing : (n : Tables) (l : Limits) (noinline : List (List ℕ)) (f : Form read_entities.Entity) → Quiet f → Always (λ x t. printed_of noinline x ≡ None) f →
+    (s : Names) (u : List Piece) (x : read_entities.Entity) (t : Names) → f.reads s u x t → IsReadEntity n l noinline s u x t
+read_nothing n l noinline f quiet always s u x t r = record {
   indexed = λ i. subst Indexed (quiet.same s u x t r) i;
   fronts = λ front. subst (λ (y : Names). Front false n y) (sym (quiet.same s u x t r)) front;
   left_out = λ h. quiet.same s u x t r;
@@ -133,9 +133,9 @@ read_nothing n k noinline f quiet always s u x t r = record {
 quiet_equals : Quiet equals
 quiet_equals = quiet_token _
 
-pub read_source : (n : Tables) (k : ℕ) (noinline : List (List ℕ)) (s : Names) (u : List Piece) (x : read_entities.Entity) (t : Names) → source_filename.reads s u x t → IsReadEntity n k noinline s u x t
+pub read_source : (n : Tables) (l : Limits) (noinline : List (List ℕ)) (s : Names) (u : List Piece) (x : read_entities.Entity) (t : Names) → source_filename.reads s u x t → IsReadEntity n l noinline s u x t
 unfolding source_filename
-read_source n k noinline = read_nothing n k noinline source_filename
+read_source n l noinline = read_nothing n l noinline source_filename
     (quiet_then (quiet_token _) (λ (w : Unit {0}). quiet_then quiet_equals (λ (e : Unit {0}). quiet_then (quiet_token _) (λ (said : List ℕ). quiet_ret))))
     (λ s u x t r. ends (λ y z. printed_of noinline y ≡ None) r.6.6.6.1 refl)
 
@@ -143,15 +143,15 @@ group_left_out : (noinline : List (List ℕ)) (b : Bool) (name : List ℕ) → p
 group_left_out noinline true name = refl
 group_left_out noinline false name = refl
 
-pub read_attributes : (n : Tables) (k : ℕ) (noinline : List (List ℕ)) (s : Names) (u : List Piece) (x : read_entities.Entity) (t : Names) → attributes.reads s u x t → IsReadEntity n k noinline s u x t
+pub read_attributes : (n : Tables) (l : Limits) (noinline : List (List ℕ)) (s : Names) (u : List Piece) (x : read_entities.Entity) (t : Names) → attributes.reads s u x t → IsReadEntity n l noinline s u x t
 unfolding attributes
-read_attributes n k noinline = read_nothing n k noinline attributes
+read_attributes n l noinline = read_nothing n l noinline attributes
     (quiet_then (quiet_token _) (λ (w : Unit {0}). quiet_then (quiet_token _) (λ (name : List ℕ). quiet_then quiet_equals (λ (e : Unit {0}). quiet_then (quiet_group 123 125) (λ (b : Bool). quiet_ret)))))
     (λ s u x t r. ends (λ y z. printed_of noinline y ≡ None) r.6.6.6.6.1 (group_left_out noinline r.6.6.6.0 r.6.0))
 
-pub read_metadata : (n : Tables) (k : ℕ) (noinline : List (List ℕ)) (s : Names) (u : List Piece) (x : read_entities.Entity) (t : Names) → metadata.reads s u x t → IsReadEntity n k noinline s u x t
+pub read_metadata : (n : Tables) (l : Limits) (noinline : List (List ℕ)) (s : Names) (u : List Piece) (x : read_entities.Entity) (t : Names) → metadata.reads s u x t → IsReadEntity n l noinline s u x t
 unfolding metadata
-read_metadata n k noinline = read_nothing n k noinline metadata
+read_metadata n l noinline = read_nothing n l noinline metadata
     (quiet_then (quiet_token _) (λ (m : Unit {0}). quiet_then quiet_metadata_rest (λ (e : Unit {0}). quiet_ret)))
     (λ s u x t r. ends (λ y z. printed_of noinline y ≡ None) r.6.6.1 refl)
 
@@ -223,34 +223,34 @@ prints_target n noinline =
     as_next prints_str (λ (said : List ℕ).
     as_done (line_image noinline b said) refl))))
 
-pub read_target : (n : Tables) (k : ℕ) (noinline : List (List ℕ)) (s : Names) (u : List Piece) (x : read_entities.Entity) (t : Names) → target.reads s u x t → IsReadEntity n k noinline s u x t
+pub read_target : (n : Tables) (l : Limits) (noinline : List (List ℕ)) (s : Names) (u : List Piece) (x : read_entities.Entity) (t : Names) → target.reads s u x t → IsReadEntity n l noinline s u x t
 unfolding target
-read_target n k noinline s u x t r = read_flat n k noinline target printed_target (entity_marks n.symbols) (prints_target (tables n.symbols n.types []) noinline) (λ s2 v e t2 q. inl q) s u x t r
+read_target n l noinline s u x t r = read_flat n l noinline target printed_target (entity_marks n.symbols) (prints_target (tables n.symbols n.types []) noinline) (λ s2 v e t2 q. inl q) s u x t r
     (ends (IsFlat noinline) r.6.6.6.6.1 (line_flat noinline r.6.0 r.6.6.6.0 r.6.6.6.1)) refl
 
 -- ---- type definitions
 
-type_becomes : (k : ℕ) (noinline : List (List ℕ)) → Becomes (image_of noinline) (type_def (unlimited k)) (printed_type (unlimited k))
+type_becomes : (l : Limits) (noinline : List (List ℕ)) → Becomes (image_of noinline) (type_def l) (printed_type l)
 unfolding type_def
-type_becomes k noinline =
-    becomes_located (text kinds.Local) (λ (n : Place × List ℕ). act (type_name n.1) >>= λ x. equals >>= λ e. expect (word (codes "type")) >>= λ w. type_form (unlimited k) >>= λ t. ret (entities.Type (record { place = n.0; name = x; ty = t }))) (λ p name.
+type_becomes l noinline =
+    becomes_located (text kinds.Local) (λ (n : Place × List ℕ). act (type_name n.1) >>= λ x. equals >>= λ e. expect (word (codes "type")) >>= λ w. type_form l >>= λ t. ret (entities.Type (record { place = n.0; name = x; ty = t }))) (λ p name.
     becomes_then (act (type_name name)) (λ (x : TypeName).
     becomes_then equals (λ (e : Unit {0}).
     becomes_then (expect (word (codes "type"))) (λ (w : Unit {0}).
-    becomes_then (type_form (unlimited k)) (λ (t : IrType).
+    becomes_then (type_form l) (λ (t : IrType).
     becomes_ret refl)))))
 
-prints_printed_type : (n : Tables) (k : ℕ) → IndexedTables n → Prints false n (printed_type (unlimited k)) (printed_type (unlimited k)) [] (entity_marks n.symbols)
-prints_printed_type n k i =
+prints_printed_type : (n : Tables) (l : Limits) → IndexedTables n → Prints false n (printed_type l) (printed_type l) [] (entity_marks n.symbols)
+prints_printed_type n l i =
     prints_joined (text kinds.Local) (λ name. act (type_name name)) (prints_type_name i) (λ (x : TypeName).
     prints_then prints_equals (λ (e : Unit {0}).
     prints_then (prints_expect (word (codes "type")) (marks.Word words.Type) (tokens.Word (codes "type")) refl tt refl refl) (λ (w : Unit {0}).
-    prints_then (prints_type_form i k) (λ (t : IrType).
+    prints_then (prints_type_form i l) (λ (t : IrType).
     prints_done refl))))
 
-pub read_type_def : (n : Tables) (k : ℕ) (noinline : List (List ℕ)) → IsIndexed n.symbols → IsIndexed n.types → (s : Names) (u : List Piece) (x : read_entities.Entity) (t : Names) → (type_def (unlimited k)).reads s u x t → IsReadEntity n k noinline s u x t
+pub read_type_def : (n : Tables) (l : Limits) (noinline : List (List ℕ)) → IsIndexed n.symbols → IsIndexed n.types → (s : Names) (u : List Piece) (x : read_entities.Entity) (t : Names) → (type_def l).reads s u x t → IsReadEntity n l noinline s u x t
 unfolding type_def
-read_type_def n k noinline i j s u x t r =
-    read_flat n k noinline (type_def (unlimited k)) (printed_type (unlimited k)) (entity_marks n.symbols)
-    (as_from (type_becomes k noinline).reads (prints_printed_type (tables n.symbols n.types []) k (i, j, none_indexed))) (λ s2 v e t2 q. inr (inl q)) s u x t r
+read_type_def n l noinline i j s u x t r =
+    read_flat n l noinline (type_def l) (printed_type l) (entity_marks n.symbols)
+    (as_from (type_becomes l noinline).reads (prints_printed_type (tables n.symbols n.types []) l (i, j, none_indexed))) (λ s2 v e t2 q. inr (inl q)) s u x t r
     (ends (IsFlat noinline) r.6.6.6.6.6.1 (refl, refl)) refl

@@ -16,7 +16,7 @@ use Rattle.ir_grammar.specs.Pieces.{Piece, Is, Bad}
 use Rattle.ir_grammar.specs.Names.{Names}
 use Rattle.ir_grammar.specs.Sets.{has}
 use Rattle.ir_grammar.specs.Forms.{Form, ret, ◌>>=◌, Rounds}
-use Rattle.ir_grammar.specs.Tokens.{unlimited, allows, expect, sign, word, words_of, one_word, number, number_of, skip}
+use Rattle.ir_grammar.specs.Tokens.{Limits, allows, expect, sign, word, words_of, one_word, number, number_of, skip}
 use Rattle.ir_grammar.specs.Groups.{token_awaits, is_noinline_word, group}
 use Rattle.ir_grammar.specs.Types.{type_form}
 use Rattle.ir_grammar.specs.Values.{global, init}
@@ -36,7 +36,7 @@ use Rattle.ir_printer.specs.Reprints.{Front, AreSound, IsReprinted}
 use Rattle.ir_printer.proofs.Positions.{IsIndexed, none_indexed}
 use Rattle.ir_printer.proofs.Reprinting.{none_left, Indexed, IndexedTables, Prints, reprinted_token, reprinted_then, reprinted_in, sound_first, sound_last}
 use Rattle.ir_printer.proofs.Images.{PrintsAs, as_then, as_next, as_it_is, as_done, as_located}
-use Rattle.ir_printer.proofs.TokensReprinted.{Quiet, Silent, prints_expect, prints_table, number_sound}
+use Rattle.ir_printer.proofs.TokensReprinted.{Quiet, Silent, prints_expect, prints_table, IsNumber, number_sound}
 use Rattle.ir_printer.proofs.QuietForms.{quiet_token, quiet_ret, quiet_then, quiet_either, quiet_rounds, quiet_skip, quiet_group, quiet_note}
 use Rattle.ir_printer.proofs.TypesReprinted.{prints_type_form}
 use Rattle.ir_printer.proofs.ValuesReprinted.{prints_global, prints_init}
@@ -58,7 +58,7 @@ reprinted_nothing inside n g s a silent = record {
 pub as_quiet : {A B : Type 0} {inside : Bool} {n : Tables} {image : A → B} {g : Form B} {all : B → List Mark} (f : Form A) → Quiet f → ((s : Names) (u : List Piece) (a : A) (t : Names) → f.reads s u a t → AreSound u → IsReprinted inside n g s (image a) s (all (image a))) → PrintsAs inside n image f g [] all
 as_quiet {inside = inside} {n = n} {image = image} {g = g} {all = all} f quiet h = record {
   indexed = λ s u a t r i. subst Indexed (quiet.same s u a t r) i;
-  fronts = λ s u a t r k. subst (λ (x : Names). Front inside n x) (sym (quiet.same s u a t r)) k;
+  fronts = λ s u a t r l. subst (λ (x : Names). Front inside n x) (sym (quiet.same s u a t r)) l;
   prints = λ s u a t r front sound. (all (image a), refl, subst (λ (x : Names). IsReprinted inside n g s (image a) x (all (image a))) (quiet.same s u a t r) (h s u a t r sound));
 }
 
@@ -83,78 +83,78 @@ quiet_linkage : Quiet (linkage false)
 unfolding linkage
 quiet_linkage = quiet_rounds (λ b. words_of global_words) false (λ b. quiet_then (quiet_token _) (λ (i : Bool). quiet_ret)) (λ b. quiet_ret)
 
-quiet_align_or_note : (k : ℕ) (a : Option ℕ) → Quiet (align_or_note (unlimited k) a)
-quiet_align_or_note k a = quiet_either align_word (quiet_then (quiet_token _) (λ (w : Unit {0}). quiet_then (quiet_token _) (λ (x : ℕ). quiet_ret))) (quiet_then quiet_note (λ (e : Unit {0}). quiet_ret))
+quiet_align_or_note : (l : Limits) (a : Option ℕ) → Quiet (align_or_note l a)
+quiet_align_or_note l a = quiet_either align_word (quiet_then (quiet_token _) (λ (w : Unit {0}). quiet_then (quiet_token _) (λ (x : ℕ). quiet_ret))) (quiet_then quiet_note (λ (e : Unit {0}). quiet_ret))
 
-quiet_global_end : (k : ℕ) → Quiet (global_end (unlimited k) None)
+quiet_global_end : (l : Limits) → Quiet (global_end l None)
 unfolding global_end
-quiet_global_end k = quiet_rounds (λ a. sign 44) None (λ a. quiet_then (quiet_token _) (λ (c : Unit {0}). quiet_align_or_note k a)) (λ a. quiet_ret)
+quiet_global_end l = quiet_rounds (λ a. sign 44) None (λ a. quiet_then (quiet_token _) (λ (c : Unit {0}). quiet_align_or_note l a)) (λ a. quiet_ret)
 
--- an alignment that can be spelled
-abbrev IsSpelled : Option ℕ → Type 0
-IsSpelled None = Unit {0}
-IsSpelled (Some x) = x < 10 ^ 30
+-- an alignment that can be spelled, within its limit
+abbrev IsSpelled : Limits → Option ℕ → Type 0
+IsSpelled l None = Unit {0}
+IsSpelled l (Some x) = IsNumber l.length x
 
-align_spelled : (k : ℕ) (a : Option ℕ) → IsSpelled a → (s : Names) (u : List Piece) (b : Option ℕ) (t : Names) → (align_or_note (unlimited k) a).reads s u b t → AreSound u → IsSpelled b
-align_spelled k a h s u b t (inl r) sound =
+align_spelled : (l : Limits) (a : Option ℕ) → IsSpelled l a → (s : Names) (u : List Piece) (b : Option ℕ) (t : Names) → (align_or_note l a).reads s u b t → AreSound u → IsSpelled l b
+align_spelled l a h s u b t (inl r) sound =
     let behind = sound_last r.2 r.3 (subst AreSound r.4 sound) in
     let one = subst AreSound r.6.5.1 (sound_first r.6.2 r.6.3 (subst AreSound r.6.4 behind)) in
-    ends (λ (y : Option ℕ) (z : Names). IsSpelled y) r.6.6.1 (number_sound r.6.5.0.token r.6.0 r.6.5.2 one.0)
-align_spelled k a h s u b t (inr r) sound = ends (λ (y : Option ℕ) (z : Names). IsSpelled y) r.6.1 h
+    ends (λ (y : Option ℕ) (z : Names). IsSpelled l y) r.6.6.1 (number_sound l.length r.6.5.0.token r.6.0 r.6.5.2 one.0)
+align_spelled l a h s u b t (inr r) sound = ends (λ (y : Option ℕ) (z : Names). IsSpelled l y) r.6.1 h
 
-end_spelled : (k c : ℕ) (a : Option ℕ) → IsSpelled a → (s : Names) (u : List Piece) (b : Option ℕ) (t : Names) → Rounds (one_global_end (unlimited k)) (λ x. ret x) c a s u b t → AreSound u → IsSpelled b
-end_spelled k zero a h s u b t r sound = ends (λ (y : Option ℕ) (z : Names). IsSpelled y) r.1 h
-end_spelled k (suc c) a h s u b t r sound =
+end_spelled : (l : Limits) (c : ℕ) (a : Option ℕ) → IsSpelled l a → (s : Names) (u : List Piece) (b : Option ℕ) (t : Names) → Rounds (one_global_end l) (λ x. ret x) c a s u b t → AreSound u → IsSpelled l b
+end_spelled l zero a h s u b t r sound = ends (λ (y : Option ℕ) (z : Names). IsSpelled l y) r.1 h
+end_spelled l (suc c) a h s u b t r sound =
     let both = subst AreSound r.4 sound in
     let q = r.5 in
-    let one = align_spelled k a h q.1 q.3 r.0 r.1 q.6 (sound_last q.2 q.3 (subst AreSound q.4 (sound_first r.2 r.3 both))) in
-    end_spelled k c r.0 one r.1 r.3 b t r.6 (sound_last r.2 r.3 both)
+    let one = align_spelled l a h q.1 q.3 r.0 r.1 q.6 (sound_last q.2 q.3 (subst AreSound q.4 (sound_first r.2 r.3 both))) in
+    end_spelled l c r.0 one r.1 r.3 b t r.6 (sound_last r.2 r.3 both)
 
-global_end_spelled : (k : ℕ) (s : Names) (u : List Piece) (b : Option ℕ) (t : Names) → (global_end (unlimited k) None).reads s u b t → AreSound u → IsSpelled b
+global_end_spelled : (l : Limits) (s : Names) (u : List Piece) (b : Option ℕ) (t : Names) → (global_end l None).reads s u b t → AreSound u → IsSpelled l b
 unfolding global_end
-global_end_spelled k s u b t r sound = end_spelled k r.0 None tt s u b t r.1 sound
+global_end_spelled l s u b t r sound = end_spelled l r.0 None tt s u b t r.1 sound
 
-reprinted_align : (inside : Bool) (n : Tables) (k : ℕ) (s : Names) (a : Option ℕ) → IsSpelled a → IsReprinted inside n (printed_align (unlimited k)) s a s (align_marks a)
-reprinted_align inside n k s None h = reprinted_nothing inside n (printed_align (unlimited k)) s None (λ s2. inr (refl, refl))
-reprinted_align inside n k s (Some x) h =
-    reprinted_in inside n (expect (sign 44) >>= λ c. behind_sign) (printed_align (unlimited k)) (λ s2 u a t r. inl r) s (Some x) s (align_marks (Some x))
+reprinted_align : (inside : Bool) (n : Tables) (l : Limits) (s : Names) (a : Option ℕ) → IsSpelled l a → IsReprinted inside n (printed_align l) s a s (align_marks a)
+reprinted_align inside n l s None h = reprinted_nothing inside n (printed_align l) s None (λ s2. inr (refl, refl))
+reprinted_align inside n l s (Some x) h =
+    reprinted_in inside n (expect (sign 44) >>= λ c. behind_sign) (printed_align l) (λ s2 u a t r. inl r) s (Some x) s (align_marks (Some x))
     (reprinted_then inside n (expect (sign 44)) (λ (c : Unit {0}). behind_sign) s tt s (Some x) s (comma ∷ []) (marks.Word words.Align ∷ marks.Int (pos x) ∷ [])
     (reprinted_token inside n _ s tt comma (tokens.Sign 44) (record { plain = refl; spellable = tt; told = refl; takes = refl }))
     (reprinted_then inside n (expect align_word) (λ (w : Unit {0}). behind_word) s tt s (Some x) s (marks.Word words.Align ∷ []) (marks.Int (pos x) ∷ [])
     (reprinted_token inside n _ s tt (marks.Word words.Align) (tokens.Word (codes "align")) (record { plain = refl; spellable = tt; told = refl; takes = refl }))
-    (reprinted_then inside n (number None) (λ (y : ℕ). ret (Some y)) s x s (Some x) s (marks.Int (pos x) ∷ []) []
-    (reprinted_token inside n (number_of None) s x (marks.Int (pos x)) (tokens.Int (pos x)) (record { plain = refl; spellable = h; told = refl; takes = refl }))
+    (reprinted_then inside n (number l.length) (λ (y : ℕ). ret (Some y)) s x s (Some x) s (marks.Int (pos x) ∷ []) []
+    (reprinted_token inside n (number_of l.length) s x (marks.Int (pos x)) (tokens.Int (pos x)) (record { plain = refl; spellable = h.0; told = refl; takes = h.1 }))
     (reprinted_nothing inside n (ret (Some x)) s (Some x) (λ s2. (refl, refl))))))
   where
     behind_word : Form (Option ℕ)
-    behind_word = number None >>= λ (y : ℕ). ret (Some y)
+    behind_word = number l.length >>= λ (y : ℕ). ret (Some y)
 
     behind_sign : Form (Option ℕ)
     behind_sign = expect align_word >>= λ w. behind_word
 
-prints_global_end : {inside : Bool} {n : Tables} (k : ℕ) → Prints inside n (global_end (unlimited k) None) (printed_align (unlimited k)) [] align_marks
-prints_global_end {inside = inside} {n = n} k = prints_quiet (global_end (unlimited k) None) (quiet_global_end k) (λ s u a t r sound. reprinted_align inside n k s a (global_end_spelled k s u a t r sound))
+prints_global_end : {inside : Bool} {n : Tables} (l : Limits) → Prints inside n (global_end l None) (printed_align l) [] align_marks
+prints_global_end {inside = inside} {n = n} l = prints_quiet (global_end l None) (quiet_global_end l) (λ s u a t r sound. reprinted_align inside n l s a (global_end_spelled l s u a t r sound))
 
 global_marks_are : (g e w : Mark) (is ts cs as' : List Mark) → g ∷ e ∷ (is ++ (w ∷ (ts ++ (cs ++ as')))) ≡ (((((g ∷ e ∷ []) ++ is) ++ w ∷ []) ++ ts) ++ cs) ++ as'
 global_marks_are g e w is ts cs as' = simp append_assoc
 
-prints_global_var : (n : Tables) (k : ℕ) (noinline : List (List ℕ)) → IndexedTables n → PrintsAs false n (image_of noinline) (global_var (unlimited k)) (printed_global (unlimited k)) [] (entity_marks n.symbols)
+prints_global_var : (n : Tables) (l : Limits) (noinline : List (List ℕ)) → IndexedTables n → PrintsAs false n (image_of noinline) (global_var l) (printed_global l) [] (entity_marks n.symbols)
 unfolding global_var
-prints_global_var n k noinline i =
-    as_then (λ (g : SymId). equals >>= λ e. may_stand (codes "internal") >>= λ is. one_word storage_words >>= λ c. type_form (unlimited k) >>= λ t. init (unlimited k) >>= λ v. printed_align (unlimited k) >>= λ a. ret (Variable (record { place = nowhere; name = g; internal = is; constant = c; ty = t; init = v; align = a })))
+prints_global_var n l noinline i =
+    as_then (λ (g : SymId). equals >>= λ e. may_stand (codes "internal") >>= λ is. one_word storage_words >>= λ c. type_form l >>= λ t. init l >>= λ v. printed_align l >>= λ a. ret (Variable (record { place = nowhere; name = g; internal = is; constant = c; ty = t; init = v; align = a })))
     (as_located (as_it_is (prints_global i))) (λ (g : Place × SymId).
     as_next prints_equals (λ (e : Unit {0}).
     as_next (prints_flag words.Internal refl (linkage false) quiet_linkage) (λ (is : Bool).
     as_next (prints_table storage_words (λ (c : Bool). marks.Word (storage_word c) ∷ []) ((words.Global, refl, refl), ((words.Constant, refl, refl), tt))) (λ (c : Bool).
-    as_next (prints_type_form i k) (λ (t : IrType).
-    as_next (prints_init i k) (λ (v : Const).
-    as_next (prints_global_end k) (λ (a : Option ℕ).
+    as_next (prints_type_form i l) (λ (t : IrType).
+    as_next (prints_init i l) (λ (v : Const).
+    as_next (prints_global_end l) (λ (a : Option ℕ).
     as_done refl (global_marks_are (marks.Symbol g.1) (marks.Spaced signs.Equals) (marks.Word (storage_word c)) (word_if is words.Internal) (type_marks t) (const_marks v) (align_marks a)))))))))
 
-pub read_global_var : (n : Tables) (k : ℕ) (noinline : List (List ℕ)) → IsIndexed n.symbols → IsIndexed n.types → (s : Names) (u : List Piece) (x : read_entities.Entity) (t : Names) → (global_var (unlimited k)).reads s u x t → IsReadEntity n k noinline s u x t
+pub read_global_var : (n : Tables) (l : Limits) (noinline : List (List ℕ)) → IsIndexed n.symbols → IsIndexed n.types → (s : Names) (u : List Piece) (x : read_entities.Entity) (t : Names) → (global_var l).reads s u x t → IsReadEntity n l noinline s u x t
 unfolding global_var
-read_global_var n k noinline i j s u x t r =
-    read_flat n k noinline (global_var (unlimited k)) (printed_global (unlimited k)) (entity_marks n.symbols) (prints_global_var (tables n.symbols n.types []) k noinline (i, j, none_indexed)) (λ s2 v e t2 q. inr (inr (inl q))) s u x t r
+read_global_var n l noinline i j s u x t r =
+    read_flat n l noinline (global_var l) (printed_global l) (entity_marks n.symbols) (prints_global_var (tables n.symbols n.types []) l noinline (i, j, none_indexed)) (λ s2 v e t2 q. inr (inr (inl q))) s u x t r
     (ends (IsFlat noinline) r.6.6.6.6.6.6.6.1 (refl, refl)) refl
 
 -- ---- declarations
@@ -242,11 +242,11 @@ ordinary_by false false false = tt
 ordinary : (name : List ℕ) → IsOrdinary (signature name).1
 ordinary name = ordinary_by (bytes_eq name (codes "putchar")) (bytes_eq name (codes "getchar")) (bytes_eq name (codes "exit"))
 
-pub read_declaration : (n : Tables) (k : ℕ) (noinline : List (List ℕ)) → IsIndexed n.symbols → IsIndexed n.types → (s : Names) (u : List Piece) (x : read_entities.Entity) (t : Names) → declaration.reads s u x t → IsReadEntity n k noinline s u x t
+pub read_declaration : (n : Tables) (l : Limits) (noinline : List (List ℕ)) → IsIndexed n.symbols → IsIndexed n.types → (s : Names) (u : List Piece) (x : read_entities.Entity) (t : Names) → declaration.reads s u x t → IsReadEntity n l noinline s u x t
 unfolding declaration
-read_declaration n k noinline i j s u x t r =
+read_declaration n l noinline i j s u x t r =
     let name = name_at n.symbols r.6.6.0.0 in
-    read_flat n k noinline declaration printed_declaration (declared_with (signature name).0 (signature name).1)
+    read_flat n l noinline declaration printed_declaration (declared_with (signature name).0 (signature name).1)
     (prints_declaration (tables n.symbols n.types []) noinline (signature name).0 (signature name).1 (ordinary name) (i, j, none_indexed)) (λ s2 v e t2 q. inr (inr (inr (inr q)))) s u x t r
     (ends (IsFlat noinline) r.6.6.6.6.1 (refl, refl))
     (ends (λ (y : read_entities.Entity) (z : Names). declared_with (signature name).0 (signature name).1 (image_of noinline y) ≡ entity_marks n.symbols (image_of noinline y)) r.6.6.6.6.1 refl)

@@ -17,7 +17,7 @@ use Rattle.ir_grammar.specs.Pieces.{Piece}
 use Rattle.ir_grammar.specs.Names.{Names, define}
 use Rattle.ir_grammar.specs.Sets.{Set, has}
 use Rattle.ir_grammar.specs.Forms.{Form, act, ret, ◌>>=◌, either}
-use Rattle.ir_grammar.specs.Tokens.{Limits, unlimited, allows, expect, sign, kind, text}
+use Rattle.ir_grammar.specs.Tokens.{Limits, allows, expect, sign, kind, text}
 use Rattle.ir_grammar.specs.Values.{gep_word}
 use Rattle.ir_grammar.specs.Attributes.{no_marks, attribute_list}
 use Rattle.ir_grammar.specs.Operations.{call_word, call_head, call_end, store_word, op, Line, instr_at, instr, other_line, line_set, line}
@@ -58,21 +58,21 @@ prints_put {A = A} {inside = inside} {n = n} {f = f} {g = g} {before = before} {
 
 -- ---- lines
 
-prints_named_line : {n : Tables} → IndexedTables n → (k : ℕ) → Prints true n (printed_named (unlimited k)) (printed_named (unlimited k)) [] line_marks
-prints_named_line i k =
+prints_named_line : {n : Tables} → IndexedTables n → (l : Limits) → Prints true n (printed_named l) (printed_named l) [] line_marks
+prints_named_line i l =
     prints_joined (text kinds.Local) (λ name. act (define name)) (prints_define i) (λ (r : LocalId).
     prints_then (prints_expect (sign 61) equals (tokens.Sign 61) refl tt refl refl) (λ (e : Unit {0}).
-    prints_then (prints_op i k) (λ (o : Op). prints_done refl)))
+    prints_then (prints_op i l) (λ (o : Op). prints_done refl)))
 
 -- what has no name gets its number
-prints_next_line : {n : Tables} → IndexedTables n → (k : ℕ) → Prints true n (next_line (unlimited k)) (printed_named (unlimited k)) [] line_marks
-prints_next_line i k =
+prints_next_line : {n : Tables} → IndexedTables n → (l : Limits) → Prints true n (next_line l) (printed_named l) [] line_marks
+prints_next_line i l =
     prints_in
-    (prints_then (prints_next_local i) (λ (r : LocalId). prints_put (sign 61) equals (tokens.Sign 61) refl tt refl refl (prints_then (prints_op i k) (λ (o : Op). prints_done refl))))
-    (assoc_back (text kinds.Local) (λ name. act (define name)) (λ (r : LocalId). expect (sign 61) >>= λ e. op (unlimited k) >>= λ o. ret (Some r, o)))
+    (prints_then (prints_next_local i) (λ (r : LocalId). prints_put (sign 61) equals (tokens.Sign 61) refl tt refl refl (prints_then (prints_op i l) (λ (o : Op). prints_done refl))))
+    (assoc_back (text kinds.Local) (λ name. act (define name)) (λ (r : LocalId). expect (sign 61) >>= λ e. op l >>= λ o. ret (Some r, o)))
 
-prints_store_line : {n : Tables} → IndexedTables n → (k : ℕ) → Prints true n (printed_store (unlimited k)) (printed_store (unlimited k)) [] line_marks
-prints_store_line i k = prints_then (prints_store i k) (λ (o : Op). prints_done refl)
+prints_store_line : {n : Tables} → IndexedTables n → (l : Limits) → Prints true n (printed_store l) (printed_store l) [] line_marks
+prints_store_line i l = prints_then (prints_store i l) (λ (o : Op). prints_done refl)
 
 -- ---- calls of `void`
 
@@ -85,12 +85,12 @@ prints_head : {inside : Bool} {n : Tables} → Prints inside n call_head (expect
 unfolding call_head
 prints_head = prints_in (prints_then prints_call_words (λ (w : Unit {0}). prints_drop (attribute_list barred.Values no_marks) (quiet_attribute_list barred.Values no_marks) (prints_done refl))) (word_alone call_word)
 
-prints_void_call : {n : Tables} → IndexedTables n → (k : ℕ) → Prints true n (void_call (unlimited k)) (printed_call (unlimited k)) [] line_marks
-prints_void_call i k =
+prints_void_call : {n : Tables} → IndexedTables n → (l : Limits) → Prints true n (void_call l) (printed_call l) [] line_marks
+prints_void_call i l =
     prints_then prints_head (λ (h : Unit {0}).
     prints_then (prints_expect void_word (marks.Word words.Void) (tokens.Word (codes "void")) refl tt refl refl) (λ (v : Unit {0}).
     prints_then (prints_callee i) (λ (f : SymId).
-    prints_then (prints_arguments i k) (λ (as' : List TypedOperand).
+    prints_then (prints_arguments i l) (λ (as' : List TypedOperand).
     prints_drop call_end quiet_call_end (prints_done refl)))))
 
 -- ---- all lines
@@ -99,50 +99,50 @@ prints_void_call i k =
 abbrev told_line : Limits → Form (Option LocalId × Op)
 told_line l = either (kind kinds.Local) (printed_named l) (either gep_word (next_line l) (either store_word (printed_store l) (void_call l)))
 
-prints_told : {n : Tables} → IndexedTables n → (k : ℕ) → Prints true n (told_line (unlimited k)) (printed_line (unlimited k)) [] line_marks
-prints_told i k =
-    prints_cases (kind kinds.Local) (prints_in (prints_named_line i k) (λ s u a t r. inl r))
-    (prints_cases gep_word (prints_in (prints_next_line i k) (λ s u a t r. inl r))
-    (prints_cases store_word (prints_in (prints_store_line i k) (λ s u a t r. inr (inl r)))
-    (prints_in (prints_void_call i k) (λ s u a t r. inr (inr r)))))
+prints_told : {n : Tables} → IndexedTables n → (l : Limits) → Prints true n (told_line l) (printed_line l) [] line_marks
+prints_told i l =
+    prints_cases (kind kinds.Local) (prints_in (prints_named_line i l) (λ s u a t r. inl r))
+    (prints_cases gep_word (prints_in (prints_next_line i l) (λ s u a t r. inl r))
+    (prints_cases store_word (prints_in (prints_store_line i l) (λ s u a t r. inr (inl r)))
+    (prints_in (prints_void_call i l) (λ s u a t r. inr (inr r)))))
 
-abbrev IsTold : ℕ → Names → List Piece → Line → Names → Type 0
-IsTold k s u x t = (y : Option LocalId × Op) × (x ≡ Some y) × (told_line (unlimited k)).reads s u y t
+abbrev IsTold : Limits → Names → List Piece → Line → Names → Type 0
+IsTold l s u x t = (y : Option LocalId × Op) × (x ≡ Some y) × (told_line l).reads s u y t
 
 -- a line that was read is skipped, or read so
-reads_line : (k : ℕ) (s : Names) (u : List Piece) (x : Line) (t : Names) → (line (unlimited k)).reads s u x t → ((x ≡ None) × (s ≡ t)) ⊎ IsTold k s u x t
+reads_line : (l : Limits) (s : Names) (u : List Piece) (x : Line) (t : Names) → (line l).reads s u x t → ((x ≡ None) × (s ≡ t)) ⊎ IsTold l s u x t
 unfolding line other_line op
-reads_line k s u x t (inl r) =
+reads_line l s u x t (inl r) =
     let a = r.6 in let b = a.6 in let c = b.6 in
     inr ((Some a.0, c.0), ap (λ (y : Line × Names). y.0) (sym c.6.1), inl (r.0, r.1, r.2, r.3, r.4, r.5, (a.0, a.1, a.2, a.3, a.4, a.5, (b.0, b.1, b.2, b.3, b.4, b.5, (c.0, c.1, c.2, c.3, c.4, c.5, (c.6.0, ap (λ (y : Line × Names). ((Some a.0, c.0), y.1)) c.6.1))))))
-reads_line k s u x t (inr (inl r)) =
+reads_line l s u x t (inr (inl r)) =
     let a = r.6 in
     inr ((Some r.0, a.0), ap (λ (y : Line × Names). y.0) (sym a.6.1), inr (inl (r.0, r.1, r.2, r.3, r.4, r.5, (a.0, a.1, a.2, a.3, a.4, inr (inl a.5), (a.6.0, ap (λ (y : Line × Names). ((Some r.0, a.0), y.1)) a.6.1)))))
-reads_line k s u x t (inr (inr (inl r))) = at (reads_call k s u x t r)
+reads_line l s u x t (inr (inr (inl r))) = at (reads_call l s u x t r)
   where
-    at : ((x ≡ None) × (s ≡ t)) ⊎ ((y : Option LocalId × Op) × (x ≡ Some y) × ((void_call (unlimited k)).reads s u y t ⊎ (next_line (unlimited k)).reads s u y t)) → ((x ≡ None) × (s ≡ t)) ⊎ IsTold k s u x t
+    at : ((x ≡ None) × (s ≡ t)) ⊎ ((y : Option LocalId × Op) × (x ≡ Some y) × ((void_call l).reads s u y t ⊎ (next_line l).reads s u y t)) → ((x ≡ None) × (s ≡ t)) ⊎ IsTold l s u x t
     at (inl h) = inl h
     at (inr h) = inr (h.0, h.1, told h.2)
       where
-        told : ((void_call (unlimited k)).reads s u h.0 t ⊎ (next_line (unlimited k)).reads s u h.0 t) → (told_line (unlimited k)).reads s u h.0 t
+        told : ((void_call l).reads s u h.0 t ⊎ (next_line l).reads s u h.0 t) → (told_line l).reads s u h.0 t
         told (inl g) = inr (inr (inr g))
         told (inr g) = inr (inl g)
-reads_line k s u x t (inr (inr (inr (inl r)))) = inr ((None, r.0), ap (λ (y : Line × Names). y.0) (sym r.6.1), inr (inr (inl (r.0, r.1, r.2, r.3, r.4, r.5, (r.6.0, ap (λ (y : Line × Names). ((None, r.0), y.1)) r.6.1)))))
-reads_line k s u x t (inr (inr (inr (inr r)))) =
+reads_line l s u x t (inr (inr (inr (inl r)))) = inr ((None, r.0), ap (λ (y : Line × Names). y.0) (sym r.6.1), inr (inr (inl (r.0, r.1, r.2, r.3, r.4, r.5, (r.6.0, ap (λ (y : Line × Names). ((None, r.0), y.1)) r.6.1)))))
+reads_line l s u x t (inr (inr (inr (inr r)))) =
     let a = r.6 in
     inr ((Some r.0, a.0), ap (λ (y : Line × Names). y.0) (sym a.6.1), inr (inl (r.0, r.1, r.2, r.3, r.4, r.5, (a.0, a.1, a.2, a.3, a.4, inr (inr a.5), (a.6.0, ap (λ (y : Line × Names). ((Some r.0, a.0), y.1)) a.6.1)))))
 
-pub prints_lines : {n : Tables} → IndexedTables n → (k : ℕ) → PrintsLines n k
-prints_lines {n = n} i k s u x t r = at (reads_line k s u x t r)
+pub prints_lines : {n : Tables} → IndexedTables n → (l : Limits) → PrintsLines n l
+prints_lines {n = n} i l s u x t r = at (reads_line l s u x t r)
   where
-    at : ((x ≡ None) × (s ≡ t)) ⊎ IsTold k s u x t → ((x ≡ None) × (s ≡ t)) ⊎ IsPrintedLine n k s u x t
+    at : ((x ≡ None) × (s ≡ t)) ⊎ IsTold l s u x t → ((x ≡ None) × (s ≡ t)) ⊎ IsPrintedLine n l s u x t
     at (inl h) = inl h
     at (inr h) = inr (record {
       line = h.0;
       told = h.1;
-      indexed = λ g. (prints_told i k).indexed s u h.0 t h.2 g;
-      fronts = λ f. (prints_told i k).fronts s u h.0 t h.2 f;
-      prints = λ f sound. (let m = (prints_told i k).prints s u h.0 t h.2 f sound in subst (λ (ms : List Mark). IsReprinted true n (printed_line (unlimited k)) s h.0 t ms) (sym m.1) m.2);
+      indexed = λ g. (prints_told i l).indexed s u h.0 t h.2 g;
+      fronts = λ f. (prints_told i l).fronts s u h.0 t h.2 f;
+      prints = λ f sound. (let m = (prints_told i l).prints s u h.0 t h.2 f sound in subst (λ (ms : List Mark). IsReprinted true n (printed_line l) s h.0 t ms) (sym m.1) m.2);
     })
 
 -- ---- code
@@ -160,11 +160,11 @@ code_more [] i = append-nil (instr_marks i)
 code_more (j ∷ is) i = ap (λ (ms : List Mark). instr_marks j ++ ms) (code_more is i) ∙ sym (append_assoc (instr_marks j) (flat_map instr_marks is) (instr_marks i))
 
 -- one more printed line
-abbrev pub next_printed : ℕ → List Instr → Form (List Instr)
-next_printed k is = printed_line (unlimited k) >>= λ x. ret (is ++ unplaced_line x ∷ [])
+abbrev pub next_printed : Limits → List Instr → Form (List Instr)
+next_printed l is = printed_line l >>= λ x. ret (is ++ unplaced_line x ∷ [])
 
-printed_more : (n : Tables) (k : ℕ) (is : List Instr) (s : Names) (y : Option LocalId × Op) (t : Names) → IsReprinted true n (printed_line (unlimited k)) s y t (line_marks y) → IsReprinted true n (next_printed k is) s (is ++ unplaced_line y ∷ []) t (instr_marks (unplaced_line y))
-printed_more n k is s y t h = reprinted_behind_layout true n marks.Indented refl (next_printed k is) s (is ++ unplaced_line y ∷ []) t (line_marks y) (record {
+printed_more : (n : Tables) (l : Limits) (is : List Instr) (s : Names) (y : Option LocalId × Op) (t : Names) → IsReprinted true n (printed_line l) s y t (line_marks y) → IsReprinted true n (next_printed l is) s (is ++ unplaced_line y ∷ []) t (instr_marks (unplaced_line y))
+printed_more n l is s y t h = reprinted_behind_layout true n marks.Indented refl (next_printed l is) s (is ++ unplaced_line y ∷ []) t (line_marks y) (record {
   ready = h.ready;
   counted = h.counted;
   spellable = h.spellable;
@@ -172,9 +172,9 @@ printed_more n k is s y t h = reprinted_behind_layout true n marks.Indented refl
 })
 
 -- one more instruction
-code_round : {n : Tables} → IndexedTables n → (k : ℕ) (is js : List Instr) (s : Names) (u : List Piece) (more : List Instr) (t : Names) → Stands is js → (one_more_instr (unlimited k) is).reads s u more t → (Stands more js × (s ≡ t)) ⊎ Round true n (next_printed k) (λ xs. flat_map instr_marks xs) Stands s u js more t
+code_round : {n : Tables} → IndexedTables n → (l : Limits) (is js : List Instr) (s : Names) (u : List Piece) (more : List Instr) (t : Names) → Stands is js → (one_more_instr l is).reads s u more t → (Stands more js × (s ≡ t)) ⊎ Round true n (next_printed l) (λ xs. flat_map instr_marks xs) Stands s u js more t
 unfolding instr
-code_round {n = n} i k is js s u more t stands r = at (prints_lines i k s r.5.2 r.5.0.1 r.5.1 r.5.5.1)
+code_round {n = n} i l is js s u more t stands r = at (prints_lines i l s r.5.2 r.5.0.1 r.5.1 r.5.5.1)
   where
     names : r.5.1 ≡ t
     names = ap (λ (y : Option Instr × Names). y.1) r.5.6.1 ∙ ap (λ (y : List Instr × Names). y.1) r.6.1
@@ -185,7 +185,7 @@ code_round {n = n} i k is js s u more t stands r = at (prints_lines i k s r.5.2 
     sound_line : AreSound u → AreSound r.5.2
     sound_line sound = sound_first r.5.2 r.5.3 (subst AreSound r.5.4 (sound_first r.2 r.3 (subst AreSound r.4 sound)))
 
-    at : ((r.5.0.1 ≡ None) × (s ≡ r.5.1)) ⊎ IsPrintedLine n k s r.5.2 r.5.0.1 r.5.1 → (Stands more js × (s ≡ t)) ⊎ Round true n (next_printed k) (λ xs. flat_map instr_marks xs) Stands s u js more t
+    at : ((r.5.0.1 ≡ None) × (s ≡ r.5.1)) ⊎ IsPrintedLine n l s r.5.2 r.5.0.1 r.5.1 → (Stands more js × (s ≡ t)) ⊎ Round true n (next_printed l) (λ xs. flat_map instr_marks xs) Stands s u js more t
     at (inl h) = inl (ap (map unplaced_instr) (sym (is_more None h.0)) ∙ stands, h.1 ∙ names)
     at (inr h) = inr (record {
       state = js ++ unplaced_line h.line ∷ [];
@@ -195,13 +195,13 @@ code_round {n = n} i k is js s u more t stands r = at (prints_lines i k s r.5.2 
       prints = λ f sound. (
         instr_marks (unplaced_line h.line),
         code_more js (unplaced_line h.line),
-        subst (λ (y : Names). IsReprinted true n (next_printed k js) s (js ++ unplaced_line h.line ∷ []) y (instr_marks (unplaced_line h.line))) names
-            (printed_more n k js s h.line r.5.1 (h.prints (subst (λ (y : Names). Front true n y) (sym names) f) (sound_line sound))),
+        subst (λ (y : Names). IsReprinted true n (next_printed l js) s (js ++ unplaced_line h.line ∷ []) y (instr_marks (unplaced_line h.line))) names
+            (printed_more n l js s h.line r.5.1 (h.prints (subst (λ (y : Names). Front true n y) (sym names) f) (sound_line sound))),
       );
     })
 
-pub prints_code : {n : Tables} → IndexedTables n → (k : ℕ) → PrintsCode n k
+pub prints_code : {n : Tables} → IndexedTables n → (l : Limits) → PrintsCode n l
 unfolding code
-prints_code i k is =
-    as_rounds (one_more_instr (unlimited k)) (λ xs. ret xs) (next_printed k) (λ xs. ret xs) (λ xs. line_set) (λ xs. line_set) (λ xs. flat_map instr_marks xs) Stands
-    (code_round i k) (λ xs ys stands. as_done stands refl) is (map unplaced_instr is) refl
+prints_code i l is =
+    as_rounds (one_more_instr l) (λ xs. ret xs) (next_printed l) (λ xs. ret xs) (λ xs. line_set) (λ xs. line_set) (λ xs. flat_map instr_marks xs) Stands
+    (code_round i l) (λ xs ys stands. as_done stands refl) is (map unplaced_instr is) refl

@@ -13,7 +13,7 @@ use Rattle.ir_grammar.specs.declared.kinds.Kind.TheVariants as kinds
 use Rattle.ir_grammar.specs.Pieces.{Piece}
 use Rattle.ir_grammar.specs.Names.{Names}
 use Rattle.ir_grammar.specs.Forms.{Form, ret, Takes, choose, place_of, Rounds}
-use Rattle.ir_grammar.specs.Tokens.{unlimited, text_of, text}
+use Rattle.ir_grammar.specs.Tokens.{Limits, text_of, text}
 use Rattle.ir_grammar.specs.Attributes.{no_marks}
 use Rattle.ir_grammar.specs.Operations.{call_head, is_lifetime, callee_if, callee_of, callee, called, lifetime, unnamed_call, other_line, line, instr}
 use Rattle.ir_grammar.specs.Bodies.{one_more_instr, code}
@@ -42,9 +42,9 @@ chosen : {A : Type 0} (b : Bool) (f g : Form A) (s : Names) (u : List Piece) (a 
 chosen true f g s u a t e r = absurd cc
 chosen false f g s u a t e r = r
 
-rereads_call : (k : ℕ) (s : Names) (u : List Piece) (x : Option LocalId × Op) (t : Names) → (printed_call (unlimited k)).reads s u x t → (unnamed_call (unlimited k)).reads s u (Some x) t
+rereads_call : (l : Limits) (s : Names) (u : List Piece) (x : Option LocalId × Op) (t : Names) → (printed_call l).reads s u x t → (unnamed_call l).reads s u (Some x) t
 unfolding unnamed_call call_head callee called
-rereads_call k s u x t r =
+rereads_call l s u x t r =
     let a = r.6 in let b = a.6 in let c = b.6 in let g = b.5 in
     let name = callee_name g.5.0.token g.0 g.5.2 in
     let symbol_first = b.4 ∙ ap (λ (v : List Piece). v ++ b.3) (g.4 ∙ ap (λ (v : List Piece). g.2 ++ v) g.6.0 ∙ append-nil g.2) in
@@ -68,7 +68,7 @@ rereads_call k s u x t r =
           a.2,
           a.3,
           a.4,
-          word_is_void k r.1 a.2 a.1 a.5,
+          word_is_void l r.1 a.2 a.1 a.5,
           (
             g.0,
             g.1,
@@ -82,7 +82,7 @@ rereads_call k s u x t r =
               b.3,
               [],
               sym (append-nil b.3),
-              chosen (is_lifetime g.0) (lifetime (length r.1.types)) (called (unlimited k) Void g.0) g.1 b.3 (Some x) t name.1
+              chosen (is_lifetime g.0) (lifetime (length r.1.types)) (called l Void g.0) g.1 b.3 (Some x) t name.1
                   (b.0, b.1, [], b.3, refl, (refl, g.6.1), (None, b.1, [], b.3, refl, (refl, refl), (c.0, c.1, c.2, c.3, c.4, c.5, (c.6.0, ap (λ (y : (Option LocalId × Op) × Names). (Some y.0, y.1)) c.6.1)))),
               (tt, t, [], [], refl, silent_call_end t, (refl, refl)),
             ),
@@ -91,13 +91,13 @@ rereads_call k s u x t r =
       ),
     )
 
-pub rereads_line : (k : ℕ) (s : Names) (u : List Piece) (x : Option LocalId × Op) (t : Names) → (printed_line (unlimited k)).reads s u x t → (line (unlimited k)).reads s u (Some x) t
+pub rereads_line : (l : Limits) (s : Names) (u : List Piece) (x : Option LocalId × Op) (t : Names) → (printed_line l).reads s u x t → (line l).reads s u (Some x) t
 unfolding line other_line
-rereads_line k s u x t (inl r) =
+rereads_line l s u x t (inl r) =
     let a = r.6 in let b = a.6 in let c = b.6 in
     inl (r.0, r.1, r.2, r.3, r.4, r.5, (a.0, a.1, a.2, a.3, a.4, a.5, (b.0, b.1, b.2, b.3, b.4, b.5, (c.0, c.1, c.2, c.3, c.4, c.5, (c.6.0, ap (λ (y : (Option LocalId × Op) × Names). (Some y.0, y.1)) c.6.1)))))
-rereads_line k s u x t (inr (inl r)) = inr (inr (inr (inl (r.0, r.1, r.2, r.3, r.4, r.5, (r.6.0, ap (λ (y : (Option LocalId × Op) × Names). (Some y.0, y.1)) r.6.1)))))
-rereads_line k s u x t (inr (inr r)) = inr (inr (inl (rereads_call k s u x t r)))
+rereads_line l s u x t (inr (inl r)) = inr (inr (inr (inl (r.0, r.1, r.2, r.3, r.4, r.5, (r.6.0, ap (λ (y : (Option LocalId × Op) × Names). (Some y.0, y.1)) r.6.1)))))
+rereads_line l s u x t (inr (inr r)) = inr (inr (inl (rereads_call l s u x t r)))
 
 -- ---- code
 
@@ -106,23 +106,23 @@ abbrev placed_line : List Piece → Option LocalId × Op → Instr
 placed_line u x = record { place = place_of u; result = x.0; op = x.1 }
 
 -- one line is read with the place of its first token
-rereads_instr : (k : ℕ) (is : List Instr) (s : Names) (u : List Piece) (x : Option LocalId × Op) (t : Names) → (printed_line (unlimited k)).reads s u x t → (one_more_instr (unlimited k) is).reads s u (is ++ placed_line u x ∷ []) t
+rereads_instr : (l : Limits) (is : List Instr) (s : Names) (u : List Piece) (x : Option LocalId × Op) (t : Names) → (printed_line l).reads s u x t → (one_more_instr l is).reads s u (is ++ placed_line u x ∷ []) t
 unfolding instr
-rereads_instr k is s u x t r = (Some (placed_line u x), t, u, [], sym (append-nil u), ((place_of u, Some x), t, u, [], sym (append-nil u), (refl, rereads_line k s u x t r), (refl, refl)), (refl, refl))
+rereads_instr l is s u x t r = (Some (placed_line u x), t, u, [], sym (append-nil u), ((place_of u, Some x), t, u, [], sym (append-nil u), (refl, rereads_line l s u x t r), (refl, refl)), (refl, refl))
 
-rounds_again : (k m : ℕ) (is : List Instr) (s : Names) (u : List Piece) (js : List Instr) (t : Names) → Rounds (next_printed k) (λ (xs : List Instr). ret xs) m (map unplaced_instr is) s u js t →
-    (more : List Instr) × Rounds (one_more_instr (unlimited k)) (λ (xs : List Instr). ret xs) m is s u more t × (map unplaced_instr more ≡ js)
-rounds_again k zero is s u js t r = (is, (r.0, ap (λ (y : List Instr × Names). (is, y.1)) r.1), ap (λ (y : List Instr × Names). y.0) r.1)
-rounds_again k (suc m) is s u js t r =
+rounds_again : (l : Limits) (m : ℕ) (is : List Instr) (s : Names) (u : List Piece) (js : List Instr) (t : Names) → Rounds (next_printed l) (λ (xs : List Instr). ret xs) m (map unplaced_instr is) s u js t →
+    (more : List Instr) × Rounds (one_more_instr l) (λ (xs : List Instr). ret xs) m is s u more t × (map unplaced_instr more ≡ js)
+rounds_again l zero is s u js t r = (is, (r.0, ap (λ (y : List Instr × Names). (is, y.1)) r.1), ap (λ (y : List Instr × Names). y.0) r.1)
+rounds_again l (suc m) is s u js t r =
     let a = r.5 in
     let pieces : r.2 ≡ a.2 = a.4 ∙ ap (λ (v : List Piece). a.2 ++ v) a.6.0 ∙ append-nil a.2 in
     let names : a.1 ≡ r.1 = ap (λ (y : List Instr × Names). y.1) a.6.1 in
     let next = is ++ placed_line a.2 a.0 ∷ [] in
     let state : r.0 ≡ map unplaced_instr next = ap (λ (y : List Instr × Names). y.0) (sym a.6.1) ∙ sym (unplaced_more is (placed_line a.2 a.0)) in
-    let h = rounds_again k m next r.1 r.3 js t (subst (λ (xs : List Instr). Rounds (next_printed k) (λ (ys : List Instr). ret ys) m xs r.1 r.3 js t) state r.6) in
-    let one = subst (λ (y : Names). (one_more_instr (unlimited k) is).reads s a.2 next y) names (rereads_instr k is s a.2 a.0 a.1 a.5) in
+    let h = rounds_again l m next r.1 r.3 js t (subst (λ (xs : List Instr). Rounds (next_printed l) (λ (ys : List Instr). ret ys) m xs r.1 r.3 js t) state r.6) in
+    let one = subst (λ (y : Names). (one_more_instr l is).reads s a.2 next y) names (rereads_instr l is s a.2 a.0 a.1 a.5) in
     (h.0, (next, r.1, a.2, r.3, r.4 ∙ ap (λ (v : List Piece). v ++ r.3) pieces, one, h.1), h.2)
 
-pub rereads_code : (k : ℕ) → RereadsCode k
+pub rereads_code : (l : Limits) → RereadsCode l
 unfolding code
-rereads_code k is s u js t r = let h = rounds_again k r.0 is s u js t r.1 in (h.0, (r.0, h.1), h.2)
+rereads_code l is s u js t r = let h = rounds_again l r.0 is s u js t r.1 in (h.0, (r.0, h.1), h.2)

@@ -12,7 +12,7 @@ use Rattle.ir_core.specs.declared.op.LocalId.{LocalId}
 use Rattle.ir_grammar.specs.declared.kinds.Kind.{Kind}
 use Rattle.ir_grammar.specs.declared.kinds.Kind.TheVariants as kinds
 use Rattle.ir_grammar.specs.Pieces.{Piece, Is}
-use Rattle.ir_grammar.specs.Names.{Names, numbered, local, define, define_next}
+use Rattle.ir_grammar.specs.Names.{Names, Begins, numbered, local, define, define_next}
 use Rattle.ir_grammar.specs.Forms.{Form, act, Takes, ◌>>=◌}
 use Rattle.ir_grammar.specs.Tokens.{text_of, text}
 use Rattle.ir_printer.specs.declared.marks.Mark.{Mark}
@@ -20,7 +20,7 @@ use Rattle.ir_printer.specs.declared.marks.Mark.TheVariants as marks
 use Rattle.ir_printer.specs.Layout.{Tables, name_at}
 use Rattle.std.specs.Char.{is_ascii_digit}
 use Rattle.ir_printer.specs.Tokens.{is_byte, tokens_of, Are, IsName, AreSpellable}
-use Rattle.ir_printer.specs.Reprints.{Counts, counts, behind, AreReady, Begins, Front, IsSound, AreSound, IsReprinted}
+use Rattle.ir_printer.specs.Reprints.{Counts, counts, behind, AreReady, Front, IsSound, AreSound, IsReprinted}
 use Rattle.ir_printer.proofs.Strings.{both, lt_true}
 use Rattle.ir_printer.proofs.Digits.{decimal_digits, decimal_some}
 use Rattle.ir_printer.proofs.Positions.{IsIndexed, IsNamed, is_named, is_again, numbered_indexed}

@@ -9,7 +9,7 @@ use Rattle.ir_core.specs.declared.module.SymId.{SymId}
 use Rattle.ir_core.specs.declared.ty.TypeName.{TypeName}
 use Rattle.ir_grammar.specs.declared.kinds.Kind.TheVariants as kinds
 use Rattle.ir_grammar.specs.Pieces.{Piece, Is, Bad}
-use Rattle.ir_grammar.specs.Names.{Names, numbered, symbol, type_name}
+use Rattle.ir_grammar.specs.Names.{Names, Begins, numbered, symbol, type_name}
 use Rattle.ir_grammar.specs.Sets.{is_debug, are_digits, kind_if, kind_fits, OfKind}
 use Rattle.ir_grammar.specs.Forms.{Form, act, token, Verdict, Takes, ◌>>=◌}
 use Rattle.ir_grammar.specs.Tokens.{text_of, text_if, text}
@@ -17,7 +17,7 @@ use Rattle.ir_printer.specs.declared.marks.Mark.{Mark}
 use Rattle.ir_printer.specs.declared.marks.Mark.TheVariants as marks
 use Rattle.ir_printer.specs.Layout.{Tables, name_at}
 use Rattle.ir_printer.specs.Tokens.{Are, IsName}
-use Rattle.ir_printer.specs.Reprints.{counts, Begins, Front, IsSound, AreSound, IsReprinted}
+use Rattle.ir_printer.specs.Reprints.{counts, Front, IsSound, AreSound, IsReprinted}
 use Rattle.ir_printer.proofs.Positions.{IsNamed, is_named, is_again, numbered_indexed}
 use Rattle.ir_printer.proofs.Reprinting.{Indexed, IndexedTables, Prints, none_left}
 

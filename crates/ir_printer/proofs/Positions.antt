@@ -7,10 +7,9 @@ use Rattle.std.proofs.lemmas.Bool.Decides.{nat_tests}
 use Rattle.std.proofs.lemmas.List.{append_assoc, append-nil, length-append}
 use Rattle.std.proofs.lemmas.Bool.{cases_lt}
 use Rattle.std.proofs.lemmas.Slice.Eq.{bytes_eq-Decides}
-use Rattle.ir_grammar.specs.Names.{placed, numbered}
+use Rattle.ir_grammar.specs.Names.{Begins, placed, numbered}
 use Rattle.ir_grammar.proofs.Apart.{bytes_same}
 use Rattle.ir_printer.specs.Layout.{name_at}
-use Rattle.ir_printer.specs.Reprints.{Begins}
 
 -- ---- the first place at which a test passes
 

@@ -1,18 +1,17 @@
 -- A printed text is read as the module, but for places.
-use Rattle.std.proofs.Common.{◌≡◌, ◌⊎◌, inl, inr, refl, sym, ap, ap₂, ◌∙◌, subst, ℕ, false, List, [], ◌∷◌, ◌++◌, length}
-use Rattle.std.specs.Prelude.{Option, Some, None, fold}
+use Rattle.std.proofs.Common.{◌≡◌, ◌⊎◌, inl, inr, refl, sym, ap, ap₂, ◌∙◌, subst, ℕ, ◌<◌, ◌+◌, arith, false, List, [], ◌∷◌, ◌++◌, length}
+use Rattle.std.specs.Prelude.{Option, Some, None, All, fold}
 use Rattle.std.specs.List.{flat_map, AllByRecursion as Every}
-use Rattle.std.proofs.lemmas.List.{append-nil}
+use Rattle.std.proofs.lemmas.List.{append-nil, length-map}
 use Rattle.ir_core.specs.declared.module.Module as modules
-use Rattle.ir_core.specs.Places.{unplaced, AreSameButForPlaces}
+use Rattle.ir_core.specs.Places.{unplaced_func, unplaced, AreSameButForPlaces}
 use Rattle.ir_lexer.specs.Places.{first_place}
 use Rattle.ir_grammar.specs.declared.parts.Entity as read_entities
 use Rattle.ir_grammar.specs.Pieces.{Piece, pieces}
 use Rattle.ir_grammar.specs.Names.{Names, no_names}
-use Rattle.ir_grammar.specs.Tokens.{unlimited}
+use Rattle.ir_grammar.specs.Tokens.{Limits, is_past}
 use Rattle.ir_grammar.specs.Entities.{added, no_entities, module_of, text_form}
-use Rattle.ir_grammar.specs.Reading.{ReadsPieces, Reads, IsReadable}
-use Rattle.ir_grammar.proofs.Faults.{enough_levels}
+use Rattle.ir_grammar.specs.Reading.{ReadsPieces}
 use Rattle.ir_printer.specs.declared.words.Word.{Word}
 use Rattle.ir_printer.specs.declared.words.Word.TheVariants as words
 use Rattle.ir_printer.specs.declared.demands.Known.{Known}
@@ -69,24 +68,24 @@ abbrev known_of : ℕ → ℕ → Known
 known_of symbols types = record { symbols = symbols; types = types }
 
 -- a line without names
-no_more_known : (k : Known) → known_behind k no_demand ≡ k
-no_more_known k = ap₂ known_of (max_zero k.symbols) (max_zero k.types)
+no_more_known : (l : Known) → known_behind l no_demand ≡ l
+no_more_known l = ap₂ known_of (max_zero l.symbols) (max_zero l.types)
 
-fitted_alone : (symbols : List (List ℕ)) (es : List Entity) (k : Known) → Fitted symbols k es → Fitted symbols k (alone es)
-fitted_alone symbols [] k h = tt
-fitted_alone symbols (TargetLine w said ∷ es) k h = fitted_alone symbols es k (subst (λ (l : Known). Fitted symbols l es) (no_more_known k) h.1)
-fitted_alone symbols (DefinedType d ∷ es) k h = (h.0, fitted_alone symbols es _ h.1)
-fitted_alone symbols (Variable g ∷ es) k h = (h.0, fitted_alone symbols es _ h.1)
-fitted_alone symbols (Definition f ∷ es) k h = (h.0, fitted_alone symbols es _ h.1)
-fitted_alone symbols (Declared d ∷ es) k h = (h.0, fitted_alone symbols es _ h.1)
+fitted_alone : (symbols : List (List ℕ)) (es : List Entity) (l : Known) → Fitted symbols l es → Fitted symbols l (alone es)
+fitted_alone symbols [] l h = tt
+fitted_alone symbols (TargetLine w said ∷ es) l h = fitted_alone symbols es l (subst (λ (l : Known). Fitted symbols l es) (no_more_known l) h.1)
+fitted_alone symbols (DefinedType d ∷ es) l h = (h.0, fitted_alone symbols es _ h.1)
+fitted_alone symbols (Variable g ∷ es) l h = (h.0, fitted_alone symbols es _ h.1)
+fitted_alone symbols (Definition f ∷ es) l h = (h.0, fitted_alone symbols es _ h.1)
+fitted_alone symbols (Declared d ∷ es) l h = (h.0, fitted_alone symbols es _ h.1)
 
-known_alone : (symbols : List (List ℕ)) (es : List Entity) (k : Known) → known_after symbols k (alone es) ≡ known_after symbols k es
-known_alone symbols [] k = refl
-known_alone symbols (TargetLine w said ∷ es) k = known_alone symbols es k ∙ ap (λ (l : Known). known_after symbols l es) (sym (no_more_known k))
-known_alone symbols (DefinedType d ∷ es) k = known_alone symbols es _
-known_alone symbols (Variable g ∷ es) k = known_alone symbols es _
-known_alone symbols (Definition f ∷ es) k = known_alone symbols es _
-known_alone symbols (Declared d ∷ es) k = known_alone symbols es _
+known_alone : (symbols : List (List ℕ)) (es : List Entity) (l : Known) → known_after symbols l (alone es) ≡ known_after symbols l es
+known_alone symbols [] l = refl
+known_alone symbols (TargetLine w said ∷ es) l = known_alone symbols es l ∙ ap (λ (l : Known). known_after symbols l es) (sym (no_more_known l))
+known_alone symbols (DefinedType d ∷ es) l = known_alone symbols es _
+known_alone symbols (Variable g ∷ es) l = known_alone symbols es _
+known_alone symbols (Definition f ∷ es) l = known_alone symbols es _
+known_alone symbols (Declared d ∷ es) l = known_alone symbols es _
 
 -- ---- the lines of the layout and of the triple
 
@@ -133,8 +132,8 @@ module _ (symbols : List (List ℕ)) (P : Entity → Type 0) (layout triple : Op
 
   -- one line first
   every_line : (w : Word) (o : Option (List ℕ)) (xs : List Entity) → ((said : List ℕ) → o ≡ Some said → P (TargetLine w said)) → Every P xs → Every P (target_line w o ++ xs)
-  every_line w None xs h k = k
-  every_line w (Some said) xs h k = (h said refl, k)
+  every_line w None xs h l = l
+  every_line w (Some said) xs h l = (h said refl, l)
 
   fitted_line : (w : Word) (o : Option (List ℕ)) (xs : List Entity) → Fitted symbols nothing_known xs → Fitted symbols nothing_known (target_line w o ++ xs)
   fitted_line w None xs h = h
@@ -186,9 +185,9 @@ in_turn symbols l = placed (turns (count (demands_left symbols l)) nothing_known
 -- ---- the whole
 
 -- what is said of entities that were read, and of those that are printed
-module _ (n : Tables) (k : ℕ) (es : List Entity) (t : Names) (tabled : (n.symbols ≡ t.symbols) × (n.types ≡ t.types)) (read : AreReprinted n k no_names es t) (again : RereadsEntities k) where
+module _ (n : Tables) (l : Limits) (es : List Entity) (t : Names) (tabled : (n.symbols ≡ t.symbols) × (n.types ≡ t.types)) (read : AreReprinted n l no_names es t) (again : RereadsEntities l) (room : is_past l.functions (length (flat_map func_in es)) ≡ false) where
   abbrev P : Entity → Type 0
-  P e = IsPrintable n k e
+  P e = IsPrintable n l e
 
   abbrev layout : Option (List ℕ)
   layout = fold layout_behind None es
@@ -229,16 +228,22 @@ module _ (n : Tables) (k : ℕ) (es : List Entity) (t : Names) (tabled : (n.symb
       parts_line n.symbols P layout triple parts words.DataLayout layout (target_line words.Triple triple ++ parts)
       ∙ parts_line n.symbols P layout triple parts words.Triple triple parts ∙ ordered.parts ∙ left_alone es
 
+  room_for_all : is_past l.functions (length no_entities.definitions + length (flat_map func_in all)) ≡ false
+  room_for_all =
+      let as_many : length (flat_map func_in all) ≡ length (flat_map func_in es) = ap (λ (x : Left). length x.funcs) all_parts in
+      let none_before : length no_entities.definitions + length (flat_map func_in all) ≡ length (flat_map func_in es) = omega (arith, as_many) in
+      ap (λ (j : ℕ). is_past l.functions j) none_before ∙ room
+
   none_yet : Front false n no_names
   none_yet = ((n.symbols, refl), (n.types, refl), λ e. absurd cc)
 
   -- the printed text has a module, which is the same but for places
-  text_back : (us : List Piece) → PiecesAre n us all → (m2 : modules.Module) × ReadsPieces (unlimited k) us m2 × (unplaced m2 ≡ assembled es t)
+  text_back : (us : List Piece) → PiecesAre n us all → (m2 : modules.Module) × ReadsPieces l us m2 × (unplaced m2 ≡ assembled es t)
   unfolding text_form
   text_back us p = (module_of (fold added no_entities q.entities) q.behind, (q.behind, (q.count, q.rounds)), same)
     where
-      q : Reread n k no_entities no_names us all
-      q = reread n k again all no_entities no_names us every fitted none_yet p
+      q : Reread n l no_entities no_names us all
+      q = reread n l again all no_entities no_names us room_for_all every fitted none_yet p
 
       many : known q.behind ≡ known t
       many = q.counted ∙ all_known
@@ -254,27 +259,29 @@ module _ (n : Tables) (k : ℕ) (es : List Entity) (t : Names) (tabled : (n.symb
           module_read q.entities q.behind ∙ ap (λ (groups : List (List ℕ)). assembled (parts_of groups q.entities) q.behind) q.groups ∙ ap (λ (xs : List Entity). assembled xs q.behind) q.same
           ∙ same_made symbols types all_parts (layout_line n.symbols P layout triple parts ordered.part) (triple_line n.symbols P layout triple parts ordered.part)
 
-module _ (prints : (n : Tables) (k : ℕ) (noinline : List (List ℕ)) → IsIndexed n.symbols → IsIndexed n.types → PrintsEntities n k noinline) (again : (k : ℕ) → RereadsEntities k) where
+module _ (prints : (n : Tables) (l : Limits) (noinline : List (List ℕ)) → IsIndexed n.symbols → IsIndexed n.types → PrintsEntities n l noinline) (again : (l : Limits) → RereadsEntities l) where
   -- of entities and names that were read
-  entities_back : (k : ℕ) (xs : List read_entities.Entity) (noinline : List (List ℕ)) (t : Names) → HasRead k no_names xs t →
-      (m2 : modules.Module) × Reads (printed (assembled (parts_of noinline xs) t)) m2 × (unplaced m2 ≡ assembled (parts_of noinline xs) t)
+  entities_back : (l : Limits) (xs : List read_entities.Entity) (noinline : List (List ℕ)) (t : Names) → is_past l.functions (length (flat_map func_in (parts_of noinline xs))) ≡ false → HasRead l no_names xs t →
+      (m2 : modules.Module) × ReadsPieces l (pieces (printed (assembled (parts_of noinline xs) t))) m2 × (unplaced m2 ≡ assembled (parts_of noinline xs) t)
   unfolding printed order
-  entities_back k xs noinline t r =
+  entities_back l xs noinline t room r =
       let none = tables [] [] [] in
-      let indexed = read_indexed none k noinline (prints none k noinline none_indexed none_indexed) xs no_names t r (none_indexed, none_indexed, none_indexed) in
+      let indexed = read_indexed none l noinline (prints none l noinline none_indexed none_indexed) xs no_names t r (none_indexed, none_indexed, none_indexed) in
       let n = tables t.symbols t.types [] in
       let es = parts_of noinline xs in
-      let read = read_reprinted n k noinline (prints n k noinline indexed.0 indexed.1) xs no_names t r (([], append-nil t.symbols), ([], append-nil t.types), λ e. absurd cc) in
+      let read = read_reprinted n l noinline (prints n l noinline indexed.0 indexed.1) xs no_names t r (([], append-nil t.symbols), ([], append-nil t.types), λ e. absurd cc) in
       let text = printed (assembled es t) in
-      let m = text_back n k es t (refl, refl) read (again k) (pieces text) (page_pieces n k (all n k es t (refl, refl) read (again k)) None first_place (every n k es t (refl, refl) read (again k))) in
-      (m.0, enough_levels k (pieces text) m.0 m.1, m.2)
+      text_back n l es t (refl, refl) read (again l) room (pieces text)
+      (page_pieces n l (all n l es t (refl, refl) read (again l) room) None first_place (every n l es t (refl, refl) read (again l) room))
 
-  -- a readable module's text is read as the module, but for places
-  pub printed_back : (m : modules.Module) → IsReadable m → (m2 : modules.Module) × Reads (printed m) m2 × AreSameButForPlaces m2 m
-  printed_back m h =
-      let k = length (pieces h.0) in
-      let x = text_read k (pieces h.0) h.1 h.3.0 h.3.1 (pieces_sound h.0 (are_bytes h.0 h.2)) in
+  -- a text that was read within these limits: the text of its module is read within them as the module, but for places
+  pub printed_back : (l : Limits) (m : modules.Module) (bytes : List ℕ) (read : modules.Module) → All (λ b. b < 256) bytes → ReadsPieces l (pieces bytes) read → AreSameButForPlaces read m → is_past l.functions (length m.funcs) ≡ false →
+      (m2 : modules.Module) × ReadsPieces l (pieces (printed m)) m2 × AreSameButForPlaces m2 m
+  printed_back l m bytes read small h same room =
+      let x = text_read l (pieces bytes) read h.0 h.1 (pieces_sound bytes (are_bytes bytes small)) in
       let d = fold added no_entities x.0 in
-      let whole : unplaced m ≡ assembled (parts_of d.noinline x.0) h.3.0 = sym h.4 ∙ ap unplaced x.2 ∙ module_read x.0 h.3.0 in
-      let b = entities_back k x.0 d.noinline h.3.0 x.1 in
-      (b.0, subst (λ (bs : List ℕ). Reads bs b.0) (ap printed (sym whole) ∙ printed_unplaced m) b.1, b.2 ∙ sym whole)
+      let es = parts_of d.noinline x.0 in
+      let whole : unplaced m ≡ assembled es h.0 = sym same ∙ ap unplaced x.2 ∙ module_read x.0 h.0 in
+      let many : length m.funcs ≡ length (flat_map func_in es) = sym (length-map m.funcs unplaced_func) ∙ ap (λ (y : modules.Module). length y.funcs) whole in
+      let b = entities_back l x.0 d.noinline h.0 (subst (λ (k : ℕ). is_past l.functions k ≡ false) many room) x.1 in
+      (b.0, subst (λ (bs : List ℕ). ReadsPieces l (pieces bs) b.0) (ap printed (sym whole) ∙ printed_unplaced m) b.1, b.2 ∙ sym whole)

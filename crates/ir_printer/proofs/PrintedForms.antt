@@ -1,8 +1,7 @@
 -- The forms of a printed text: each result and each block has its name, nothing is skipped, and there are no places.
-use Rattle.std.proofs.Common.{◌≡◌, ◌⊎◌, ℕ, Bool, true, false, List, [], ◌∷◌, ◌++◌, map, length}
+use Rattle.std.proofs.Common.{◌≡◌, ◌⊎◌, ℕ, Bool, true, false, List, [], ◌∷◌, ◌++◌, ◌+◌, map, length}
 use Rattle.std.specs.Prelude.{Option, Some, None, codes}
 use Rattle.std.specs.List.{flat_map}
-use Rattle.ir_core.specs.declared.ty.IrType.{IrType}
 use Rattle.ir_core.specs.declared.ty.IrType as types
 use Rattle.ir_core.specs.declared.op.LocalId.{LocalId}
 use Rattle.ir_core.specs.declared.op.Op.{Op}
@@ -21,7 +20,7 @@ use Rattle.ir_grammar.specs.declared.parts.Entity.TheVariants as entities
 use Rattle.ir_grammar.specs.Pieces.{Piece}
 use Rattle.ir_grammar.specs.Names.{Names, define, type_name}
 use Rattle.ir_grammar.specs.Forms.{Form, act, ret, token, Refuses, ◌>>=◌, either, rounds}
-use Rattle.ir_grammar.specs.Tokens.{Limits, unlimited, expect, sign, word, kind, one_word, text, number, skip}
+use Rattle.ir_grammar.specs.Tokens.{Limits, is_past, expect, sign, word, kind, one_word, text, number, skip}
 use Rattle.ir_grammar.specs.Types.{type_form, value_type}
 use Rattle.ir_grammar.specs.Values.{global, value, init}
 use Rattle.ir_grammar.specs.Groups.{group}
@@ -161,28 +160,28 @@ printed_entity l =
 -- ---- what is said of them
 
 -- a line that was read is skipped, or printed
-pub record IsPrintedLine (n : Tables) (k : ℕ) (s : Names) (u : List Piece) (x : Line) (t : Names) : Type 0 where
+pub record IsPrintedLine (n : Tables) (l : Limits) (s : Names) (u : List Piece) (x : Line) (t : Names) : Type 0 where
   pub line : Option LocalId × Op
   pub told : x ≡ Some line
   pub indexed : Indexed s → Indexed t
   pub fronts : Front true n t → Front true n s
-  pub prints : Front true n t → AreSound u → IsReprinted true n (printed_line (unlimited k)) s line t (line_marks line)
+  pub prints : Front true n t → AreSound u → IsReprinted true n (printed_line l) s line t (line_marks line)
 
-abbrev pub PrintsLines : Tables → ℕ → Type 0
-PrintsLines n k = (s : Names) (u : List Piece) (x : Line) (t : Names) → (line (unlimited k)).reads s u x t → ((x ≡ None) × (s ≡ t)) ⊎ IsPrintedLine n k s u x t
+abbrev pub PrintsLines : Tables → Limits → Type 0
+PrintsLines n l = (s : Names) (u : List Piece) (x : Line) (t : Names) → (line l).reads s u x t → ((x ≡ None) × (s ≡ t)) ⊎ IsPrintedLine n l s u x t
 
 -- instructions behind those that are there
-abbrev pub PrintsCode : Tables → ℕ → Type 0
-PrintsCode n k = (is : List Instr) → PrintsAs true n (map unplaced_instr) (code (unlimited k) is) (printed_code (unlimited k) (map unplaced_instr is)) (flat_map instr_marks (map unplaced_instr is)) (flat_map instr_marks)
+abbrev pub PrintsCode : Tables → Limits → Type 0
+PrintsCode n l = (is : List Instr) → PrintsAs true n (map unplaced_instr) (code l is) (printed_code l (map unplaced_instr is)) (flat_map instr_marks (map unplaced_instr is)) (flat_map instr_marks)
 
-abbrev pub RereadsCode : ℕ → Type 0
-RereadsCode k = (is : List Instr) (s : Names) (u : List Piece) (js : List Instr) (t : Names) → (printed_code (unlimited k) (map unplaced_instr is)).reads s u js t → (more : List Instr) × (code (unlimited k) is).reads s u more t × (map unplaced_instr more ≡ js)
+abbrev pub RereadsCode : Limits → Type 0
+RereadsCode l = (is : List Instr) (s : Names) (u : List Piece) (js : List Instr) (t : Names) → (printed_code l (map unplaced_instr is)).reads s u js t → (more : List Instr) × (code l is).reads s u more t × (map unplaced_instr more ≡ js)
 
-abbrev pub PrintsBody : Tables → ℕ → Type 0
-PrintsBody n k = PrintsAs true n (map unplaced_block) (body (unlimited k)) (printed_body (unlimited k)) [] body_marks
+abbrev pub PrintsBody : Tables → Limits → Type 0
+PrintsBody n l = PrintsAs true n (map unplaced_block) (body l) (printed_body l) [] body_marks
 
-abbrev pub RereadsBody : ℕ → Type 0
-RereadsBody k = (s : Names) (u : List Piece) (bs : List Block) (t : Names) → (printed_body (unlimited k)).reads s u bs t → (more : List Block) × (body (unlimited k)).reads s u more t × (map unplaced_block more ≡ bs)
+abbrev pub RereadsBody : Limits → Type 0
+RereadsBody l = (s : Names) (u : List Piece) (bs : List Block) (t : Names) → (printed_body l).reads s u bs t → (more : List Block) × (body l).reads s u more t × (map unplaced_block more ≡ bs)
 
 -- how many symbols and type names have come
 abbrev pub known : Names → Known
@@ -190,12 +189,12 @@ known s = record { symbols = length s.symbols; types = length s.types }
 
 -- An entity that was read from these names to those is printed: its names have come or are the next ones where it
 -- stands, and its marks are read as it wherever that is so.
-pub record IsEntityReprinted (n : Tables) (k : ℕ) (s : Names) (e : Entity) (t : Names) : Type 0 where
+pub record IsEntityReprinted (n : Tables) (l : Limits) (s : Names) (e : Entity) (t : Names) : Type 0 where
   pub fitting : fits (known s) (demand (entity_marks n.symbols e)) ≡ true
   pub counted : known t ≡ known_behind (known s) (demand (entity_marks n.symbols e))
   pub spellable : AreSpellable (tables n.symbols n.types (locals_of e)) (entity_marks n.symbols e)
   pub rereads : (s2 : Names) (us : List Piece) → Front false n s2 → fits (known s2) (demand (entity_marks n.symbols e)) ≡ true → Are us (tokens_of (tables n.symbols n.types (locals_of e)) (entity_marks n.symbols e)) →
-      (t2 : Names) × (printed_entity (unlimited k)).reads s2 us e t2 × Front false n t2 × (known t2 ≡ known_behind (known s2) (demand (entity_marks n.symbols e)))
+      (t2 : Names) × (printed_entity l).reads s2 us e t2 × Front false n t2 × (known t2 ≡ known_behind (known s2) (demand (entity_marks n.symbols e)))
 
 -- what is printed of an entity that was read, where these groups of attributes have the word `noinline`
 abbrev pub printed_of : List (List ℕ) → read_entities.Entity → Option Entity
@@ -209,15 +208,20 @@ printed_of noinline (entities.Define d) = Some (Definition (unplaced_func (funct
 printed_of noinline (entities.Declare d) = Some (Declared (unplaced_declaration d))
 
 -- an entity that was read is left out, or printed
-pub record IsReadEntity (n : Tables) (k : ℕ) (noinline : List (List ℕ)) (s : Names) (u : List Piece) (x : read_entities.Entity) (t : Names) : Type 0 where
+pub record IsReadEntity (n : Tables) (l : Limits) (noinline : List (List ℕ)) (s : Names) (u : List Piece) (x : read_entities.Entity) (t : Names) : Type 0 where
   pub indexed : Indexed s → Indexed t
   pub fronts : Front false n t → Front false n s
   pub left_out : printed_of noinline x ≡ None → s ≡ t
-  pub prints : Front false n t → AreSound u → (e : Entity) → printed_of noinline x ≡ Some e → IsEntityReprinted n k s e t
+  pub prints : Front false n t → AreSound u → (e : Entity) → printed_of noinline x ≡ Some e → IsEntityReprinted n l s e t
 
-abbrev pub PrintsEntities : Tables → ℕ → List (List ℕ) → Type 0
-PrintsEntities n k noinline = (count : ℕ) (s : Names) (u : List Piece) (x : read_entities.Entity) (t : Names) → (entity (unlimited k) count).reads s u x t → IsReadEntity n k noinline s u x t
+abbrev pub PrintsEntities : Tables → Limits → List (List ℕ) → Type 0
+PrintsEntities n l noinline = (count : ℕ) (s : Names) (u : List Piece) (x : read_entities.Entity) (t : Names) → (entity l count).reads s u x t → IsReadEntity n l noinline s u x t
 
--- a printed entity is read as an entity, and no group of attributes is named in it
-abbrev pub RereadsEntities : ℕ → Type 0
-RereadsEntities k = (count : ℕ) (s : Names) (u : List Piece) (e : Entity) (t : Names) → (printed_entity (unlimited k)).reads s u e t → (x : read_entities.Entity) × (other_entity (unlimited k) count).reads s u x t × (printed_of [] x ≡ Some e)
+-- behind so many definitions there is room for an entity
+abbrev pub HasRoom : Limits → ℕ → Entity → Type 0
+HasRoom l count (Definition f) = is_past l.functions (count + 1) ≡ false
+HasRoom l count e = Unit {0}
+
+-- a printed entity is read as an entity where there is room for it, and no group of attributes is named in it
+abbrev pub RereadsEntities : Limits → Type 0
+RereadsEntities l = (count : ℕ) (s : Names) (u : List Piece) (e : Entity) (t : Names) → HasRoom l count e → (printed_entity l).reads s u e t → (x : read_entities.Entity) × (other_entity l count).reads s u x t × (printed_of [] x ≡ Some e)

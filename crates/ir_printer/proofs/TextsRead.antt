@@ -17,7 +17,7 @@ use Rattle.ir_grammar.specs.declared.parts.Entity.TheVariants as entities
 use Rattle.ir_grammar.specs.Pieces.{Piece}
 use Rattle.ir_grammar.specs.Names.{Names, no_names}
 use Rattle.ir_grammar.specs.Forms.{Rounds}
-use Rattle.ir_grammar.specs.Tokens.{unlimited}
+use Rattle.ir_grammar.specs.Tokens.{Limits}
 use Rattle.ir_grammar.specs.Entities.{entity, no_entities, added, function_of, module_of, note_or_metadata, rest_of_note_or_metadata, behind_declaration, next_entity, text_end, text_form}
 use Rattle.ir_printer.specs.declared.words.Word.TheVariants as words
 use Rattle.ir_printer.specs.declared.demands.Known.{Known}
@@ -38,38 +38,38 @@ abbrev plain : Draft → Draft
 plain d = record d { declares = false }
 
 -- a round says nothing, or reads an entity
-abbrev Says : ℕ → Draft → Names → List Piece → Draft → Names → Type 0
-Says k d s u d1 t = ((plain d1 ≡ plain d) × (s ≡ t)) ⊎ ((x : read_entities.Entity) × (entity (unlimited k) (length d.definitions)).reads s u x t × (plain d1 ≡ plain (added d x)))
+abbrev Says : Limits → Draft → Names → List Piece → Draft → Names → Type 0
+Says l d s u d1 t = ((plain d1 ≡ plain d) × (s ≡ t)) ⊎ ((x : read_entities.Entity) × (entity l (length d.definitions)).reads s u x t × (plain d1 ≡ plain (added d x)))
 
-rest_says : (k : ℕ) (d : Draft) (s : Names) (u : List Piece) (d1 : Draft) (t : Names) → (rest_of_note_or_metadata d).reads s u d1 t → (plain d1 ≡ plain d) × (s ≡ t)
-rest_says k d s u d1 t (inl r) = (ap (λ (x : Draft × Names). plain x.0) (sym r.6.1), quiet_note_rest.same s r.2 r.0 r.1 r.5 ∙ ap (λ (x : Draft × Names). x.1) r.6.1)
-rest_says k d s u d1 t (inr r) = (ap (λ (x : Draft × Names). plain x.0) (sym r.6.1), quiet_metadata_rest.same s r.2 r.0 r.1 r.5 ∙ ap (λ (x : Draft × Names). x.1) r.6.1)
+rest_says : (l : Limits) (d : Draft) (s : Names) (u : List Piece) (d1 : Draft) (t : Names) → (rest_of_note_or_metadata d).reads s u d1 t → (plain d1 ≡ plain d) × (s ≡ t)
+rest_says l d s u d1 t (inl r) = (ap (λ (x : Draft × Names). plain x.0) (sym r.6.1), quiet_note_rest.same s r.2 r.0 r.1 r.5 ∙ ap (λ (x : Draft × Names). x.1) r.6.1)
+rest_says l d s u d1 t (inr r) = (ap (λ (x : Draft × Names). plain x.0) (sym r.6.1), quiet_metadata_rest.same s r.2 r.0 r.1 r.5 ∙ ap (λ (x : Draft × Names). x.1) r.6.1)
 
-note_says : (k : ℕ) (d : Draft) (s : Names) (u : List Piece) (d1 : Draft) (t : Names) → (note_or_metadata d).reads s u d1 t → (plain d1 ≡ plain d) × (s ≡ t)
+note_says : (l : Limits) (d : Draft) (s : Names) (u : List Piece) (d1 : Draft) (t : Names) → (note_or_metadata d).reads s u d1 t → (plain d1 ≡ plain d) × (s ≡ t)
 unfolding note_or_metadata
-note_says k d s u d1 t r = let q = rest_says k d r.1 r.3 d1 t r.6 in (q.0, (quiet_token _).same s r.2 r.0 r.1 r.5 ∙ q.1)
+note_says l d s u d1 t r = let q = rest_says l d r.1 r.3 d1 t r.6 in (q.0, (quiet_token _).same s r.2 r.0 r.1 r.5 ∙ q.1)
 
-says_entity : (k : ℕ) (d : Draft) (s : Names) (u u1 u2 : List Piece) (x : read_entities.Entity) (s1 : Names) (d1 : Draft) (t : Names) → u ≡ u1 ++ u2 → (entity (unlimited k) (length d.definitions)).reads s u1 x s1 → u2 ≡ [] → ◌≡◌ {A = Draft × Names} (added d x, s1) (d1, t) → Says k d s u d1 t
-says_entity k d s u u1 u2 x s1 d1 t whole r none e =
+says_entity : (l : Limits) (d : Draft) (s : Names) (u u1 u2 : List Piece) (x : read_entities.Entity) (s1 : Names) (d1 : Draft) (t : Names) → u ≡ u1 ++ u2 → (entity l (length d.definitions)).reads s u1 x s1 → u2 ≡ [] → ◌≡◌ {A = Draft × Names} (added d x, s1) (d1, t) → Says l d s u d1 t
+says_entity l d s u u1 u2 x s1 d1 t whole r none e =
     let same : u1 ≡ u = sym (append-nil u1) ∙ ap (λ (v : List Piece). u1 ++ v) (sym none) ∙ sym whole in
-    inr (x, subst (λ (v : List Piece). (entity (unlimited k) (length d.definitions)).reads s v x t) same (subst (λ (z : Draft × Names). (entity (unlimited k) (length d.definitions)).reads s u1 x z.1) e r), ap (λ (z : Draft × Names). plain z.0) (sym e))
+    inr (x, subst (λ (v : List Piece). (entity l (length d.definitions)).reads s v x t) same (subst (λ (z : Draft × Names). (entity l (length d.definitions)).reads s u1 x z.1) e r), ap (λ (z : Draft × Names). plain z.0) (sym e))
 
-behind_says : (k : ℕ) (d : Draft) (s : Names) (u : List Piece) (d1 : Draft) (t : Names) → (behind_declaration (unlimited k) d).reads s u d1 t → Says k d s u d1 t
+behind_says : (l : Limits) (d : Draft) (s : Names) (u : List Piece) (d1 : Draft) (t : Names) → (behind_declaration l d).reads s u d1 t → Says l d s u d1 t
 unfolding behind_declaration entity
-behind_says k d s u d1 t (inl r) = inl (note_says k d s u d1 t r)
-behind_says k d s u d1 t (inr (inl r)) = inl (ap (λ (x : Draft × Names). plain x.0) (sym r.6.1), (quiet_attribute barred.Nothing).same s r.2 r.0 r.1 r.5 ∙ ap (λ (x : Draft × Names). x.1) r.6.1)
-behind_says k d s u d1 t (inr (inr r)) = says_entity k d s u r.2 r.3 r.0 r.1 d1 t r.4 (inr r.5) r.6.0 r.6.1
+behind_says l d s u d1 t (inl r) = inl (note_says l d s u d1 t r)
+behind_says l d s u d1 t (inr (inl r)) = inl (ap (λ (x : Draft × Names). plain x.0) (sym r.6.1), (quiet_attribute barred.Nothing).same s r.2 r.0 r.1 r.5 ∙ ap (λ (x : Draft × Names). x.1) r.6.1)
+behind_says l d s u d1 t (inr (inr r)) = says_entity l d s u r.2 r.3 r.0 r.1 d1 t r.4 (inr r.5) r.6.0 r.6.1
 
-round_says : (k : ℕ) (d : Draft) (b : Bool) (s : Names) (u : List Piece) (d1 : Draft) (t : Names) → (next_entity (unlimited k) d b).reads s u d1 t → Says k d s u d1 t
-round_says k d true s u d1 t r = behind_says k d s u d1 t r
-round_says k d false s u d1 t r = says_entity k d s u r.2 r.3 r.0 r.1 d1 t r.4 r.5 r.6.0 r.6.1
+round_says : (l : Limits) (d : Draft) (b : Bool) (s : Names) (u : List Piece) (d1 : Draft) (t : Names) → (next_entity l d b).reads s u d1 t → Says l d s u d1 t
+round_says l d true s u d1 t r = behind_says l d s u d1 t r
+round_says l d false s u d1 t r = says_entity l d s u r.2 r.3 r.0 r.1 d1 t r.4 r.5 r.6.0 r.6.1
 
 -- ---- the entities of a text
 
 -- these entities were read one behind the other
-abbrev pub HasRead : ℕ → Names → List read_entities.Entity → Names → Type 0
-HasRead k s [] t = s ≡ t
-HasRead k s (x ∷ xs) t = (count : ℕ) × (u : List Piece) × (s1 : Names) × AreSound u × (entity (unlimited k) count).reads s u x s1 × HasRead k s1 xs t
+abbrev pub HasRead : Limits → Names → List read_entities.Entity → Names → Type 0
+HasRead l s [] t = s ≡ t
+HasRead l s (x ∷ xs) t = (count : ℕ) × (u : List Piece) × (s1 : Names) × AreSound u × (entity l count).reads s u x s1 × HasRead l s1 xs t
 
 added_plain : (d e : Draft) (x : read_entities.Entity) → plain d ≡ plain e → plain (added d x) ≡ plain (added e x)
 added_plain d e entities.Nothing h = h
@@ -86,23 +86,23 @@ fold_plain [] d e h = h
 fold_plain (x ∷ xs) d e h = fold_plain xs (added d x) (added e x) (added_plain d e x h)
 
 -- the module of a text, by its entities
-abbrev IsRead : ℕ → Draft → Names → modules.Module → Names → Type 0
-IsRead k d s m t = (xs : List read_entities.Entity) × HasRead k s xs t × (m ≡ module_of (fold added d xs) t)
+abbrev IsRead : Limits → Draft → Names → modules.Module → Names → Type 0
+IsRead l d s m t = (xs : List read_entities.Entity) × HasRead l s xs t × (m ≡ module_of (fold added d xs) t)
 
-rounds_read : (k c : ℕ) (d : Draft) (s : Names) (u : List Piece) (m : modules.Module) (t : Names) → Rounds (λ (e : Draft). next_entity (unlimited k) e e.declares) text_end c d s u m t → AreSound u → IsRead k d s m t
-rounds_read k zero d s u m t r sound = ([], r.5.3 ∙ ap (λ (x : modules.Module × Names). x.1) r.6.1, ap (λ (x : modules.Module × Names). x.0) (sym r.6.1) ∙ ap (module_of d) (ap (λ (x : modules.Module × Names). x.1) r.6.1))
-rounds_read k (suc c) d s u m t r sound = at (rounds_read k c r.0 r.1 r.3 m t r.6 (sound_last r.2 r.3 both)) (round_says k d d.declares s r.2 r.0 r.1 r.5)
+rounds_read : (l : Limits) (c : ℕ) (d : Draft) (s : Names) (u : List Piece) (m : modules.Module) (t : Names) → Rounds (λ (e : Draft). next_entity l e e.declares) text_end c d s u m t → AreSound u → IsRead l d s m t
+rounds_read l zero d s u m t r sound = ([], r.5.3 ∙ ap (λ (x : modules.Module × Names). x.1) r.6.1, ap (λ (x : modules.Module × Names). x.0) (sym r.6.1) ∙ ap (module_of d) (ap (λ (x : modules.Module × Names). x.1) r.6.1))
+rounds_read l (suc c) d s u m t r sound = at (rounds_read l c r.0 r.1 r.3 m t r.6 (sound_last r.2 r.3 both)) (round_says l d d.declares s r.2 r.0 r.1 r.5)
   where
     both : AreSound (r.2 ++ r.3)
     both = subst AreSound r.4 sound
 
-    at : IsRead k r.0 r.1 m t → Says k d s r.2 r.0 r.1 → IsRead k d s m t
-    at more (inl q) = (more.0, subst (λ (y : Names). HasRead k y more.0 t) (sym q.1) more.1, more.2 ∙ ap (λ (y : Draft). module_of y t) (fold_plain more.0 r.0 d q.0))
+    at : IsRead l r.0 r.1 m t → Says l d s r.2 r.0 r.1 → IsRead l d s m t
+    at more (inl q) = (more.0, subst (λ (y : Names). HasRead l y more.0 t) (sym q.1) more.1, more.2 ∙ ap (λ (y : Draft). module_of y t) (fold_plain more.0 r.0 d q.0))
     at more (inr q) = (q.0 ∷ more.0, (length d.definitions, r.2, r.1, sound_first r.2 r.3 both, q.1, more.1), more.2 ∙ ap (λ (y : Draft). module_of y t) (fold_plain more.0 r.0 (added d q.0) q.2))
 
-pub text_read : (k : ℕ) (u : List Piece) (m : modules.Module) (t : Names) → (text_form (unlimited k)).reads no_names u m t → AreSound u → IsRead k no_entities no_names m t
+pub text_read : (l : Limits) (u : List Piece) (m : modules.Module) (t : Names) → (text_form l).reads no_names u m t → AreSound u → IsRead l no_entities no_names m t
 unfolding text_form
-text_read k u m t r sound = rounds_read k r.0 no_entities no_names u m t r.1 sound
+text_read l u m t r sound = rounds_read l r.0 no_entities no_names u m t r.1 sound
 
 -- ---- what is printed of them
 
@@ -117,36 +117,36 @@ abbrev pub parts_of : List (List ℕ) → List read_entities.Entity → List Ent
 parts_of noinline xs = flat_map (part_of noinline) xs
 
 -- an entity can be spelled, and is read from its marks wherever its names have come or are the next ones
-abbrev pub IsPrintable : Tables → ℕ → Entity → Type 0
-IsPrintable n k e = AreSpellable (tables n.symbols n.types (locals_of e)) (entity_marks n.symbols e) × (
+abbrev pub IsPrintable : Tables → Limits → Entity → Type 0
+IsPrintable n l e = AreSpellable (tables n.symbols n.types (locals_of e)) (entity_marks n.symbols e) × (
     (s2 : Names) (us : List Piece) → Front false n s2 → fits (known s2) (demand (entity_marks n.symbols e)) ≡ true → Are us (tokens_of (tables n.symbols n.types (locals_of e)) (entity_marks n.symbols e)) →
-    (t2 : Names) × (printed_entity (unlimited k)).reads s2 us e t2 × Front false n t2 × (known t2 ≡ known_behind (known s2) (demand (entity_marks n.symbols e))))
+    (t2 : Names) × (printed_entity l).reads s2 us e t2 × Front false n t2 × (known t2 ≡ known_behind (known s2) (demand (entity_marks n.symbols e))))
 
 -- what is said of entities that were read from these names to those
-pub record AreReprinted (n : Tables) (k : ℕ) (s : Names) (es : List Entity) (t : Names) : Type 0 where
+pub record AreReprinted (n : Tables) (l : Limits) (s : Names) (es : List Entity) (t : Names) : Type 0 where
   pub front : Front false n s
   pub fitted : Fitted n.symbols (known s) es
   pub counted : known_after n.symbols (known s) es ≡ known t
-  pub each : Every (IsPrintable n k) es
+  pub each : Every (IsPrintable n l) es
 
-pub read_indexed : (n : Tables) (k : ℕ) (noinline : List (List ℕ)) → PrintsEntities n k noinline → (xs : List read_entities.Entity) (s t : Names) → HasRead k s xs t → Indexed s → Indexed t
-read_indexed n k noinline p [] s t r i = subst Indexed r i
-read_indexed n k noinline p (x ∷ xs) s t r i = read_indexed n k noinline p xs r.2 t r.5 ((p r.0 s r.1 x r.2 r.4).indexed i)
+pub read_indexed : (n : Tables) (l : Limits) (noinline : List (List ℕ)) → PrintsEntities n l noinline → (xs : List read_entities.Entity) (s t : Names) → HasRead l s xs t → Indexed s → Indexed t
+read_indexed n l noinline p [] s t r i = subst Indexed r i
+read_indexed n l noinline p (x ∷ xs) s t r i = read_indexed n l noinline p xs r.2 t r.5 ((p r.0 s r.1 x r.2 r.4).indexed i)
 
-pub read_reprinted : (n : Tables) (k : ℕ) (noinline : List (List ℕ)) → PrintsEntities n k noinline → (xs : List read_entities.Entity) (s t : Names) → HasRead k s xs t → Front false n t → AreReprinted n k s (parts_of noinline xs) t
-read_reprinted n k noinline p [] s t r front = record {
+pub read_reprinted : (n : Tables) (l : Limits) (noinline : List (List ℕ)) → PrintsEntities n l noinline → (xs : List read_entities.Entity) (s t : Names) → HasRead l s xs t → Front false n t → AreReprinted n l s (parts_of noinline xs) t
+read_reprinted n l noinline p [] s t r front = record {
   front = subst (λ (y : Names). Front false n y) (sym r) front;
   fitted = tt;
   counted = ap known r;
   each = tt;
 }
-read_reprinted n k noinline p (x ∷ xs) s t r front = at (read_reprinted n k noinline p xs r.2 t r.5 front) (printed_of noinline x) refl
+read_reprinted n l noinline p (x ∷ xs) s t r front = at (read_reprinted n l noinline p xs r.2 t r.5 front) (printed_of noinline x) refl
   where
-    one : IsReadEntity n k noinline s r.1 x r.2
+    one : IsReadEntity n l noinline s r.1 x r.2
     one = p r.0 s r.1 x r.2 r.4
 
-    at : AreReprinted n k r.2 (parts_of noinline xs) t → (o : Option Entity) → printed_of noinline x ≡ o → AreReprinted n k s (one_or_none o ++ parts_of noinline xs) t
-    at more None e = subst (λ (y : Names). AreReprinted n k y (parts_of noinline xs) t) (sym (one.left_out e)) more
+    at : AreReprinted n l r.2 (parts_of noinline xs) t → (o : Option Entity) → printed_of noinline x ≡ o → AreReprinted n l s (one_or_none o ++ parts_of noinline xs) t
+    at more None e = subst (λ (y : Names). AreReprinted n l y (parts_of noinline xs) t) (sym (one.left_out e)) more
     at more (Some y) e =
         let h = one.prints more.front r.3 y e in
         record {

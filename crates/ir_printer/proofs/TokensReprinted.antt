@@ -1,14 +1,16 @@
 -- Tokens and what is skipped.
 use Rattle.std.proofs.Common.{◌≡◌, refl, sym, ap, ◌∙◌, subst, ℕ, ℤ, pos, negsuc, ◌^◌, ◌<◌, Bool, true, false, List, [], ◌∷◌, arith}
-use Rattle.std.specs.Prelude.{if◌then◌else◌, nat_abs, None}
+use Rattle.std.specs.Prelude.{Option, Some, None, if◌then◌else◌, nat_abs, nat_lt}
 use Rattle.std.specs.Str.{bytes_eq}
 use Rattle.ir_lexer.specs.declared.table.Token.{Token}
 use Rattle.ir_lexer.specs.declared.table.Token.TheVariants as tokens
+use Rattle.ir_grammar.specs.declared.which.Which.{Which}
+use Rattle.ir_grammar.specs.declared.which.Which.TheVariants as limits
 use Rattle.ir_grammar.specs.Pieces.{Piece}
 use Rattle.ir_grammar.specs.Names.{Names}
 use Rattle.ir_grammar.specs.Sets.{Set, has}
-use Rattle.ir_grammar.specs.Forms.{Form, ret, Verdict, Takes, token, ◌>>=◌}
-use Rattle.ir_grammar.specs.Tokens.{allows, expect, sign, look, word_of, one_word, int_of, int, in_range, number_of, number}
+use Rattle.ir_grammar.specs.Forms.{Form, ret, Verdict, Takes, Over, token, ◌>>=◌, choose}
+use Rattle.ir_grammar.specs.Tokens.{is_past, allows, expect, sign, look, word_of, one_word, int_of, int, in_range, number_of, number, over}
 use Rattle.ir_printer.specs.declared.words.Word.{Word}
 use Rattle.ir_printer.specs.declared.marks.Mark.{Mark}
 use Rattle.ir_printer.specs.declared.marks.Mark.TheVariants as marks
@@ -86,26 +88,54 @@ int_is tokens.End i h = absurd cc
 pub prints_int : {inside : Bool} {n : Tables} → Prints inside n int int [] (λ i. marks.Int i ∷ [])
 prints_int = prints_token (λ t i e sound. (marks.Int i, tokens.Int i, refl, record { plain = refl; spellable = subst IsSound (int_is t i e) sound; told = refl; takes = refl }))
 
--- without a limit a number is read as it is, and what is below zero as zero
-ranged : (i : ℤ) (k : ℕ) → in_range None i ≡ Takes k → nat_abs i < 10 ^ 30 → k < 10 ^ 30
-ranged (pos x) k h l = let same : x ≡ k = cc in subst (λ (j : ℕ). j < 10 ^ 30) same l
-ranged (negsuc x) k h l = let same : 0 ≡ k = cc in subst (λ (j : ℕ). j < 10 ^ 30) same (omega arith)
+-- a number in range is read as it is, and without a limit what is below zero as zero
+in_range_by : (b : Bool) (j k : ℕ) → (if b then Over limits.Length else Takes j) ≡ Takes k → (b ≡ false) × (j ≡ k)
+in_range_by true j k h = absurd cc
+in_range_by false j k h = (refl, cc)
 
-pub number_sound : (t : Token) (k : ℕ) → number_of None t ≡ Takes k → IsSound t → k < 10 ^ 30
-number_sound (tokens.Int x) k h sound = ranged x k h sound
-number_sound (tokens.Word w) k h sound = absurd cc
-number_sound (tokens.Label x) k h sound = absurd cc
-number_sound (tokens.Local x) k h sound = absurd cc
-number_sound (tokens.Global x) k h sound = absurd cc
-number_sound (tokens.Str x) k h sound = absurd cc
-number_sound (tokens.CStr x) k h sound = absurd cc
-number_sound (tokens.Meta x) k h sound = absurd cc
-number_sound (tokens.Hash x) k h sound = absurd cc
-number_sound (tokens.Sign x) k h sound = absurd cc
-number_sound tokens.End k h sound = absurd cc
+ranged : (most : Option ℕ) (i : ℤ) (k : ℕ) → in_range most i ≡ Takes k → nat_abs i < 10 ^ 30 → k < 10 ^ 30
+ranged most (pos x) k h small = subst (λ (j : ℕ). j < 10 ^ 30) (in_range_by (is_past most x) x k h).1 small
+ranged None (negsuc x) k h small = let same : 0 ≡ k = cc in subst (λ (j : ℕ). j < 10 ^ 30) same (omega arith)
+ranged (Some n) (negsuc x) k h small = absurd cc
 
-pub prints_number : {inside : Bool} {n : Tables} → Prints inside n (number None) (number None) [] (λ k. marks.Int (pos k) ∷ [])
-prints_number = prints_token (λ t k e sound. (marks.Int (pos k), tokens.Int (pos k), refl, record { plain = refl; spellable = number_sound t k e sound; told = refl; takes = refl }))
+-- it is in range again
+ranged_again : (most : Option ℕ) (i : ℤ) (k : ℕ) → in_range most i ≡ Takes k → in_range most (pos k) ≡ Takes k
+ranged_again None i k h = refl
+ranged_again (Some n) (pos x) k h =
+    let q = in_range_by (nat_lt n x) x k h in
+    subst (λ (j : ℕ). in_range (Some n) (pos j) ≡ Takes j) q.1 (ap (λ (b : Bool). if b then Over limits.Length else Takes x) q.0)
+ranged_again (Some n) (negsuc x) k h = absurd cc
+
+-- an integer that is a number
+number_is : (most : Option ℕ) (t : Token) (k : ℕ) → number_of most t ≡ Takes k → (i : ℤ) × (t ≡ tokens.Int i) × (in_range most i ≡ Takes k)
+number_is most (tokens.Int x) k h = (x, refl, h)
+number_is most (tokens.Word w) k h = absurd cc
+number_is most (tokens.Label x) k h = absurd cc
+number_is most (tokens.Local x) k h = absurd cc
+number_is most (tokens.Global x) k h = absurd cc
+number_is most (tokens.Str x) k h = absurd cc
+number_is most (tokens.CStr x) k h = absurd cc
+number_is most (tokens.Meta x) k h = absurd cc
+number_is most (tokens.Hash x) k h = absurd cc
+number_is most (tokens.Sign x) k h = absurd cc
+number_is most tokens.End k h = absurd cc
+
+-- a number can be spelled, and is in range where it was read
+abbrev pub IsNumber : Option ℕ → ℕ → Type 0
+IsNumber most k = (k < 10 ^ 30) × (in_range most (pos k) ≡ Takes k)
+
+pub number_sound : (most : Option ℕ) (t : Token) (k : ℕ) → number_of most t ≡ Takes k → IsSound t → IsNumber most k
+number_sound most t k h sound = let i = number_is most t k h in (ranged most i.0 k i.2 (subst IsSound i.1 sound), ranged_again most i.0 k i.2)
+
+pub prints_number : {inside : Bool} {n : Tables} (most : Option ℕ) → Prints inside n (number most) (number most) [] (λ k. marks.Int (pos k) ∷ [])
+prints_number most = prints_token (λ t k e sound. (let h = number_sound most t k e sound in (marks.Int (pos k), tokens.Int (pos k), refl, record { plain = refl; spellable = h.0; told = refl; takes = h.1 })))
+
+-- ---- a limit that is exceeded
+
+-- what exceeds a limit reads nothing
+pub prints_unless_past : {A : Type 0} {inside : Bool} {n : Tables} {f f2 : Form A} {before : List Mark} {all : A → List Mark} (past : Bool) (w : Which) → Prints inside n f f2 before all → Prints inside n (choose past (over w) f) (choose past (over w) f2) before all
+prints_unless_past true w h = prints_token (λ t a e sound. absurd cc)
+prints_unless_past false w h = h
 
 -- ---- another value
 

@@ -1,6 +1,6 @@
 -- Types are printed as they are read.
 use Rattle.std.proofs.Common.{◌≡◌, refl, ℕ, zero, suc, Bool, true, false, nat_eq, ◌||◌, List, [], ◌∷◌, map}
-use Rattle.std.specs.Prelude.{if◌then◌else◌, None, codes}
+use Rattle.std.specs.Prelude.{Option, if◌then◌else◌, codes}
 use Rattle.oi_base.specs.declared.words.Width.TheVariants.{W1, W8, W16, W32}
 use Rattle.ir_lexer.specs.declared.table.Token.{Token}
 use Rattle.ir_lexer.specs.declared.table.Token.TheVariants as tokens
@@ -10,7 +10,7 @@ use Rattle.ir_grammar.specs.declared.kinds.Kind.TheVariants as kinds
 use Rattle.ir_grammar.specs.declared.which.Which.TheVariants as limits
 use Rattle.ir_grammar.specs.Names.{type_name}
 use Rattle.ir_grammar.specs.Forms.{Form, Takes, Refuses, Over}
-use Rattle.ir_grammar.specs.Tokens.{unlimited, expect, sign, word, kind, look, words_of}
+use Rattle.ir_grammar.specs.Tokens.{Limits, expect, sign, word, kind, look, words_of}
 use Rattle.ir_grammar.specs.Types.{scalars, named, last_of, type_set, array, struct, type_in, type_form, value_type}
 use Rattle.ir_printer.specs.declared.words.Word.TheVariants as words
 use Rattle.ir_printer.specs.declared.marks.Sign.TheVariants as signs
@@ -49,10 +49,10 @@ last_from void (tokens.Meta x) a h = absurd cc
 last_from void (tokens.Hash x) a h = absurd cc
 last_from void tokens.End a h = absurd cc
 
-prints_array : {inside : Bool} {n : Tables} {f : Form IrType} → Prints inside n f f [] type_marks → Prints inside n (array None f) (array None f) [] type_marks
-prints_array h =
+prints_array : {inside : Bool} {n : Tables} {f : Form IrType} (most : Option ℕ) → Prints inside n f f [] type_marks → Prints inside n (array most f) (array most f) [] type_marks
+prints_array most h =
     prints_then (prints_expect (sign 91) (marks.Opening signs.OpenSquare) (tokens.Sign 91) refl tt refl refl) (λ (c : Unit {0}).
-    prints_then prints_number (λ (k : ℕ).
+    prints_then (prints_number most) (λ (k : ℕ).
     prints_then (prints_expect (word (codes "x")) (marks.Word words.X) (tokens.Word (codes "x")) refl tt refl refl) (λ (x : Unit {0}).
     prints_then h (λ (t : IrType).
     prints_then (prints_expect (sign 93) (marks.Closing signs.CloseSquare) (tokens.Sign 93) refl tt refl refl) (λ (d : Unit {0}).
@@ -70,18 +70,18 @@ prints_struct h =
     prints_then (prints_close (map type_marks ts)) (λ (d : Unit {0}).
     prints_done (struct_type ts))))
 
-pub prints_type : {inside : Bool} {n : Tables} → IndexedTables n → (void : Bool) (k : ℕ) → Prints inside n (type_in void None k) (type_in void None k) [] type_marks
+pub prints_type : {inside : Bool} {n : Tables} → IndexedTables n → (void : Bool) (most : Option ℕ) (k : ℕ) → Prints inside n (type_in void most k) (type_in void most k) [] type_marks
 unfolding type_in
-prints_type i void zero = prints_either (kind kinds.Local) (prints_named i) (prints_look (last_of void) (scalars void) type_marks (type_words void) (last_from void) (λ w a h. h))
-prints_type i void (suc k) =
+prints_type i void most zero = prints_either (kind kinds.Local) (prints_named i) (prints_look (last_of void) (scalars void) type_marks (type_words void) (last_from void) (λ w a h. h))
+prints_type i void most (suc k) =
     prints_either (kind kinds.Local) (prints_named i)
     (prints_either (words_of (scalars void)) (prints_table (scalars void) type_marks (type_words void))
-    (prints_either (sign 91) (prints_array (prints_type i true k)) (prints_struct (prints_type i true k))))
+    (prints_either (sign 91) (prints_array most (prints_type i true most k)) (prints_struct (prints_type i true most k))))
 
-pub prints_type_form : {inside : Bool} {n : Tables} → IndexedTables n → (k : ℕ) → Prints inside n (type_form (unlimited k)) (type_form (unlimited k)) [] type_marks
+pub prints_type_form : {inside : Bool} {n : Tables} → IndexedTables n → (l : Limits) → Prints inside n (type_form l) (type_form l) [] type_marks
 unfolding type_form
-prints_type_form i k = prints_type i true k
+prints_type_form i l = prints_type i true l.length l.levels
 
-pub prints_value_type : {inside : Bool} {n : Tables} → IndexedTables n → (k : ℕ) → Prints inside n (value_type (unlimited k)) (value_type (unlimited k)) [] type_marks
+pub prints_value_type : {inside : Bool} {n : Tables} → IndexedTables n → (l : Limits) → Prints inside n (value_type l) (value_type l) [] type_marks
 unfolding value_type
-prints_value_type i k = prints_type i false k
+prints_value_type i l = prints_type i false l.length l.levels

@@ -1,6 +1,6 @@
 -- Values and initialisers are printed as they are read.
 use Rattle.std.proofs.Common.{◌≡◌, refl, subst, ℕ, ℤ, zero, suc, Bool, true, false, not, nat_eq, ◌||◌, List, [], ◌∷◌, ◌++◌, map}
-use Rattle.std.specs.Prelude.{None, codes}
+use Rattle.std.specs.Prelude.{Option, codes}
 use Rattle.std.proofs.lemmas.List.{append_assoc}
 use Rattle.ir_lexer.specs.declared.table.Token.{Token}
 use Rattle.ir_lexer.specs.declared.table.Token.TheVariants as tokens
@@ -15,7 +15,7 @@ use Rattle.ir_grammar.specs.declared.kinds.Kind.TheVariants as kinds
 use Rattle.ir_grammar.specs.Names.{local}
 use Rattle.ir_grammar.specs.Sets.{is_debug, are_digits, kind_if, kind_fits, OfKind}
 use Rattle.ir_grammar.specs.Forms.{Form, Takes}
-use Rattle.ir_grammar.specs.Tokens.{unlimited, expect, sign, word, kind, look, one_word, text_of, text_if, text}
+use Rattle.ir_grammar.specs.Tokens.{Limits, expect, sign, word, kind, look, one_word, text_of, text_if, text}
 use Rattle.ir_grammar.specs.Types.{type_set}
 use Rattle.ir_grammar.specs.Values.{const_words, gep_word, gep_flags, global, index, gep_rest, gep, address, integer, const_at, constant, local_value, value, typed, zero_init, bytes, last_const_of, typed_init, array_init, struct_init, init_at, init}
 use Rattle.ir_printer.specs.declared.words.Word.TheVariants as words
@@ -49,38 +49,38 @@ prints_address i = prints_then (prints_global i) (λ (g : SymId). prints_done re
 pub prints_integer : {inside : Bool} {n : Tables} → Prints inside n integer integer [] const_marks
 prints_integer = prints_then prints_int (λ (j : ℤ). prints_done refl)
 
-pub prints_count : {inside : Bool} {n : Tables} → IndexedTables n → (k : ℕ) → Prints inside n (index None k) (index None k) [] count_marks
-prints_count i k = prints_then (prints_type i true k) (λ (t : IrType). prints_then prints_int (λ (j : ℤ). prints_done refl))
+pub prints_count : {inside : Bool} {n : Tables} → IndexedTables n → (most : Option ℕ) (k : ℕ) → Prints inside n (index most k) (index most k) [] count_marks
+prints_count i most k = prints_then (prints_type i true most k) (λ (t : IrType). prints_then prints_int (λ (j : ℤ). prints_done refl))
 
 gep_marks_are : (a b c d e f : Mark) (ts cs : List Mark) → a ∷ b ∷ (ts ++ (c ∷ d ∷ e ∷ (cs ++ f ∷ []))) ≡ (((((((a ∷ []) ++ b ∷ []) ++ ts) ++ c ∷ []) ++ d ∷ []) ++ e ∷ []) ++ cs) ++ f ∷ []
 gep_marks_are a b c d e f ts cs = simp append_assoc
 
 -- what stands behind the word
-pub prints_gep_rest : {inside : Bool} {n : Tables} → IndexedTables n → (k : ℕ) → Prints inside n (gep_rest None k) (gep_rest None k) (marks.Word words.GetElementPtr ∷ []) const_marks
+pub prints_gep_rest : {inside : Bool} {n : Tables} → IndexedTables n → (most : Option ℕ) (k : ℕ) → Prints inside n (gep_rest most k) (gep_rest most k) (marks.Word words.GetElementPtr ∷ []) const_marks
 unfolding gep_rest
-prints_gep_rest i k =
+prints_gep_rest i most k =
     prints_then (prints_expect (sign 40) (marks.Opening signs.OpenRound) (tokens.Sign 40) refl tt refl refl) (λ (o : Unit {0}).
-    prints_then (prints_type i true k) (λ (t : IrType).
+    prints_then (prints_type i true most k) (λ (t : IrType).
     prints_then prints_comma (λ (c : Unit {0}).
     prints_then (prints_expect (word (codes "ptr")) (marks.Word words.Ptr) (tokens.Word (codes "ptr")) refl tt refl refl) (λ (p : Unit {0}).
     prints_then (prints_global i) (λ (g : SymId).
-    prints_then (prints_commas count_marks (prints_count i k)) (λ (is : List TypedCount).
+    prints_then (prints_commas count_marks (prints_count i most k)) (λ (is : List TypedCount).
     prints_then (prints_expect (sign 41) (marks.Closing signs.CloseRound) (tokens.Sign 41) refl tt refl refl) (λ (d : Unit {0}).
     prints_done (gep_marks_are (marks.Word words.GetElementPtr) (marks.Opening signs.OpenRound) comma (marks.Word words.Ptr) (marks.Symbol g) (marks.Closing signs.CloseRound) (type_marks t) (behind_commas (map count_marks is))))))))))
 
 pub prints_gep_word : {inside : Bool} {n : Tables} → Prints inside n (expect gep_word) (expect gep_word) [] (λ u. marks.Word words.GetElementPtr ∷ [])
 prints_gep_word = prints_expect gep_word (marks.Word words.GetElementPtr) (tokens.Word (codes "getelementptr")) refl tt refl refl
 
-pub prints_gep : {inside : Bool} {n : Tables} → IndexedTables n → (k : ℕ) → Prints inside n (gep None k) (gep None k) [] const_marks
+pub prints_gep : {inside : Bool} {n : Tables} → IndexedTables n → (most : Option ℕ) (k : ℕ) → Prints inside n (gep most k) (gep most k) [] const_marks
 unfolding gep
-prints_gep i k = prints_then prints_gep_word (λ (w : Unit {0}). prints_past gep_flags tt quiet_gep_flags silent_gep_flags (prints_gep_rest i k))
+prints_gep i most k = prints_then prints_gep_word (λ (w : Unit {0}). prints_past gep_flags tt quiet_gep_flags silent_gep_flags (prints_gep_rest i most k))
 
 pub prints_const_word : {inside : Bool} {n : Tables} → Prints inside n (one_word const_words) (one_word const_words) [] const_marks
 prints_const_word = prints_table const_words const_marks const_entries
 
-pub prints_const : {inside : Bool} {n : Tables} → IndexedTables n → (k : ℕ) → Prints inside n (const_at None k) (const_at None k) [] const_marks
+pub prints_const : {inside : Bool} {n : Tables} → IndexedTables n → (most : Option ℕ) (k : ℕ) → Prints inside n (const_at most k) (const_at most k) [] const_marks
 unfolding const_at
-prints_const i k = prints_either (kind kinds.Global) (prints_address i) (prints_either gep_word (prints_gep i k) (prints_either (kind kinds.Int) prints_integer prints_const_word))
+prints_const i most k = prints_either (kind kinds.Global) (prints_address i) (prints_either gep_word (prints_gep i most k) (prints_either (kind kinds.Int) prints_integer prints_const_word))
 
 -- ---- values
 
@@ -88,13 +88,13 @@ pub prints_local_value : {n : Tables} → IndexedTables n → Prints true n loca
 unfolding local_value
 prints_local_value i = prints_named_as kinds.Local local operands.Local (λ x. marks.Local x ∷ []) value_marks (prints_local i) (λ a. refl)
 
-pub prints_value : {n : Tables} → IndexedTables n → (k : ℕ) → Prints true n (value (unlimited k)) (value (unlimited k)) [] value_marks
+pub prints_value : {n : Tables} → IndexedTables n → (l : Limits) → Prints true n (value l) (value l) [] value_marks
 unfolding value constant
-prints_value i k = prints_either (kind kinds.Local) (prints_local_value i) (prints_then (prints_const i k) (λ (c : Const). prints_done refl))
+prints_value i l = prints_either (kind kinds.Local) (prints_local_value i) (prints_then (prints_const i l.length l.levels) (λ (c : Const). prints_done refl))
 
-pub prints_typed : {n : Tables} → IndexedTables n → (k : ℕ) → Prints true n (typed (unlimited k)) (typed (unlimited k)) [] typed_marks
+pub prints_typed : {n : Tables} → IndexedTables n → (l : Limits) → Prints true n (typed l) (typed l) [] typed_marks
 unfolding typed
-prints_typed i k = prints_then (prints_type_form i k) (λ (t : IrType). prints_then (prints_value i k) (λ (v : Operand). prints_done refl))
+prints_typed i l = prints_then (prints_type_form i l) (λ (t : IrType). prints_then (prints_value i l) (λ (v : Operand). prints_done refl))
 
 -- ---- initialisers
 
@@ -128,8 +128,8 @@ prints_zero = prints_then (prints_expect (word (codes "zeroinitializer")) (marks
 prints_bytes : {inside : Bool} {n : Tables} → Prints inside n bytes bytes [] const_marks
 prints_bytes = prints_then prints_cstr (λ (b : List ℕ). prints_done refl)
 
-prints_typed_init : {inside : Bool} {n : Tables} {f : Form Const} → IndexedTables n → (k : ℕ) → Prints inside n f f [] const_marks → Prints inside n (typed_init f None k) (typed_init f None k) [] typed_const_marks
-prints_typed_init i k h = prints_then (prints_type i true k) (λ (t : IrType). prints_then h (λ (c : Const). prints_done refl))
+prints_typed_init : {inside : Bool} {n : Tables} {f : Form Const} → IndexedTables n → (most : Option ℕ) (k : ℕ) → Prints inside n f f [] const_marks → Prints inside n (typed_init f most k) (typed_init f most k) [] typed_const_marks
+prints_typed_init i most k h = prints_then (prints_type i true most k) (λ (t : IrType). prints_then h (λ (c : Const). prints_done refl))
 
 close_square : {inside : Bool} {n : Tables} (parts : List (List Mark)) → Prints inside n (expect (sign 93)) (expect (sign 93)) [] (λ u. last_sign signs.CloseSquare parts ∷ [])
 close_square [] = prints_expect (sign 93) (marks.Closing signs.CloseSquare) (tokens.Sign 93) refl tt refl refl
@@ -162,18 +162,18 @@ last_from (tokens.Meta x) a h = absurd cc
 last_from (tokens.Hash x) a h = absurd cc
 last_from tokens.End a h = absurd cc
 
-pub prints_init_at : {inside : Bool} {n : Tables} → IndexedTables n → (k : ℕ) → Prints inside n (init_at None k) (init_at None k) [] const_marks
+pub prints_init_at : {inside : Bool} {n : Tables} → IndexedTables n → (most : Option ℕ) (k : ℕ) → Prints inside n (init_at most k) (init_at most k) [] const_marks
 unfolding init_at
-prints_init_at i zero =
-    prints_either (kind kinds.Global) (prints_address i) (prints_either gep_word (prints_gep i zero) (prints_either (kind kinds.Int) prints_integer
+prints_init_at i most zero =
+    prints_either (kind kinds.Global) (prints_address i) (prints_either gep_word (prints_gep i most zero) (prints_either (kind kinds.Int) prints_integer
     (prints_either (word (codes "zeroinitializer")) prints_zero (prints_either (kind kinds.CStr) prints_bytes
     (prints_look last_const_of const_words const_marks const_entries last_from (λ w a h. h))))))
-prints_init_at i (suc k) =
-    let items = prints_typed_init i k (prints_init_at i k) in
-    prints_either (kind kinds.Global) (prints_address i) (prints_either gep_word (prints_gep i (suc k)) (prints_either (kind kinds.Int) prints_integer
+prints_init_at i most (suc k) =
+    let items = prints_typed_init i most k (prints_init_at i most k) in
+    prints_either (kind kinds.Global) (prints_address i) (prints_either gep_word (prints_gep i most (suc k)) (prints_either (kind kinds.Int) prints_integer
     (prints_either (word (codes "zeroinitializer")) prints_zero (prints_either (kind kinds.CStr) prints_bytes
     (prints_either (sign 91) (prints_array_init items) (prints_either (sign 123) (prints_struct_init items) prints_const_word))))))
 
-pub prints_init : {inside : Bool} {n : Tables} → IndexedTables n → (k : ℕ) → Prints inside n (init (unlimited k)) (init (unlimited k)) [] const_marks
+pub prints_init : {inside : Bool} {n : Tables} → IndexedTables n → (l : Limits) → Prints inside n (init l) (init l) [] const_marks
 unfolding init
-prints_init i k = prints_init_at i k
+prints_init i l = prints_init_at i l.length l.levels

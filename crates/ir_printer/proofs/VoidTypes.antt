@@ -12,7 +12,7 @@ use Rattle.ir_grammar.specs.Pieces.{Piece}
 use Rattle.ir_grammar.specs.Names.{Names, define_next}
 use Rattle.ir_grammar.specs.Sets.{has}
 use Rattle.ir_grammar.specs.Forms.{Verdict, Takes, Refuses, Over}
-use Rattle.ir_grammar.specs.Tokens.{unlimited, allows, expect, look, word_of}
+use Rattle.ir_grammar.specs.Tokens.{Limits, allows, expect, look, word_of}
 use Rattle.ir_grammar.specs.Types.{named, value_types, scalars, last_of, type_in, type_form, value_type}
 use Rattle.ir_grammar.specs.Operations.{result_of}
 use Rattle.ir_grammar.specs.Bodies.{void_word}
@@ -147,9 +147,9 @@ valued_in most (suc k) s u t s2 v (inl r) = inl r
 valued_in most (suc k) s u t s2 v (inr (inl r)) = inr (inl (r.0, r.1, valued_word r.0.token t v r.2, r.3))
 valued_in most (suc k) s u t s2 v (inr (inr r)) = inr (inr r)
 
-pub reads_valued : (k : ℕ) (s : Names) (u : List Piece) (t : IrType) (s2 : Names) → IsValued t → (type_form (unlimited k)).reads s u t s2 → (value_type (unlimited k)).reads s u t s2
+pub reads_valued : (l : Limits) (s : Names) (u : List Piece) (t : IrType) (s2 : Names) → IsValued t → (type_form l).reads s u t s2 → (value_type l).reads s u t s2
 unfolding type_form value_type
-reads_valued k s u t s2 v r = valued_in None k s u t s2 v r
+reads_valued l s u t s2 v r = valued_in l.length l.levels s u t s2 v r
 
 -- what is read as `void` is the word
 void_in : (most : Option ℕ) (k : ℕ) (s : Names) (u : List Piece) (s2 : Names) → (type_in true most k).reads s u Void s2 → (expect void_word).reads s u tt s2
@@ -161,9 +161,9 @@ void_in most (suc k) s u s2 (inr (inl r)) = (r.0, r.1, ap allows (void_token r.0
 void_in most (suc k) s u s2 (inr (inr (inl r))) = let e = ap (λ (x : IrType × Names). x.0) r.6.6.6.6.6.1 in absurd (cc)
 void_in most (suc k) s u s2 (inr (inr (inr r))) = let e = ap (λ (x : IrType × Names). x.0) r.6.6.6.1 in absurd (cc)
 
-pub void_is_word : (k : ℕ) (s : Names) (u : List Piece) (s2 : Names) → (type_form (unlimited k)).reads s u Void s2 → (expect void_word).reads s u tt s2
+pub void_is_word : (l : Limits) (s : Names) (u : List Piece) (s2 : Names) → (type_form l).reads s u Void s2 → (expect void_word).reads s u tt s2
 unfolding type_form
-void_is_word k s u s2 r = void_in None k s u s2 r
+void_is_word l s u s2 r = void_in l.length l.levels s u s2 r
 
 -- the word is read as `void`
 word_in : (most : Option ℕ) (k : ℕ) (s : Names) (u : List Piece) (s2 : Names) → (expect void_word).reads s u tt s2 → (type_in true most k).reads s u Void s2
@@ -171,6 +171,6 @@ unfolding type_in
 word_in most zero s u s2 r = inr (r.0, r.1, (void_given r.0.token r.2).1, r.3)
 word_in most (suc k) s u s2 r = inr (inl (r.0, r.1, (void_given r.0.token r.2).0, r.3))
 
-pub word_is_void : (k : ℕ) (s : Names) (u : List Piece) (s2 : Names) → (expect void_word).reads s u tt s2 → (type_form (unlimited k)).reads s u Void s2
+pub word_is_void : (l : Limits) (s : Names) (u : List Piece) (s2 : Names) → (expect void_word).reads s u tt s2 → (type_form l).reads s u Void s2
 unfolding type_form
-word_is_void k s u s2 r = word_in None k s u s2 r
+word_is_void l s u s2 r = word_in l.length l.levels s u s2 r

@@ -3,7 +3,7 @@ use Rattle.std.specs.Prelude.{◌≡◌, ℕ, ◌+◌, ◌<◌, ◌≤◌, ◌^�
 use Rattle.ir_lexer.specs.declared.table.Token.{Token}
 use Rattle.ir_lexer.specs.declared.table.Token.TheVariants as tokens
 use Rattle.ir_grammar.specs.Pieces.{Piece, Is, Bad}
-use Rattle.ir_grammar.specs.Names.{Names}
+use Rattle.ir_grammar.specs.Names.{Names, Begins}
 use Rattle.ir_grammar.specs.Forms.{Form}
 use Rattle.ir_printer.specs.declared.marks.Mark.{Mark}
 use Rattle.ir_printer.specs.declared.marks.Mark.TheVariants as marks
@@ -46,10 +46,6 @@ IsReady c m = Unit {0}
 abbrev pub AreReady : Counts → List Mark → Type 0
 AreReady c [] = Unit {0}
 AreReady c (m ∷ ms) = IsReady c m × AreReady (behind_mark c m) ms
-
--- these names begin a list of names
-abbrev pub Begins : List (List ℕ) → List (List ℕ) → Type 0
-Begins all names = (rest : List (List ℕ)) × (names ++ rest ≡ all)
 
 -- the names so far begin the tables; local names count inside a function alone
 abbrev pub Front : Bool → Tables → Names → Type 0

@@ -1,7 +1,7 @@
 ghost use Rattle.std.specs.Prelude.{◌≡◌, ◌++◌, map, List, IfOk, OnOk};
 ghost use Rattle.ir_core.specs.declared.module.Module as modules;
 ghost use Rattle.ir_core.specs.Places.{AreSameButForPlaces};
-ghost use Rattle.ir_grammar.specs.Reading.{Reads, ReadsWithinLimits, IsReadable};
+ghost use Rattle.ir_grammar.specs.Reading.{Reads, ReadsWithinLimits, IsReadable, IsReadableWithinLimits};
 ghost use Rattle.ir_printer.specs.Printed.{type_demand, global_demand, func_demand, declaration_demand, demands_of, Entity, target_line, all_of, placed, printed};
 ghost use Rattle.ir_printer.specs.Pages.{all_text};
 
@@ -18,12 +18,14 @@ use std::alloc::Global;
 /// The text of a readable module in clang's layout (LangRef, "Module Structure"): an instruction a line behind two blanks,
 /// each block with its label, and a blank line before a function and where the kind of entity changes. Every name is
 /// printed, in quotes where it needs them, and entities stand in an order in which symbols and type names first appear in
-/// the module's order. So the text is read as the module, but for places.
+/// the module's order. So the text is read as the module, but for places, and within the limits where the module was read
+/// within them.
 pub fn print_module(alloc: Global, m: &Module) -> Result<Vec<u8>, NoMemory>
     requires readable { IsReadable m.now }
     ensures text { IfOk result (λ text. text.items ≡ printed m.now) }
     ensures reads_back { IfOk result (λ text. (n : modules.Module) × Reads text.items n × AreSameButForPlaces n m.now) }
     ensures within { IfOk result (λ text. (n : modules.Module) → ReadsWithinLimits text.items n → AreSameButForPlaces n m.now) }
+    ensures stays_within { IfOk result (λ text. IsReadableWithinLimits m.now → (n : modules.Module) × ReadsWithinLimits text.items n × AreSameButForPlaces n m.now) }
 {
     text_of(alloc, m)
 }

@@ -8,7 +8,7 @@ use Rattle.oi_base.specs.declared.ids.Place.{Place}
 use Rattle.ir_lexer.specs.declared.table.Token.{Token}
 use Rattle.ir_lexer.specs.declared.table.Token.TheVariants as tokens
 use Rattle.ir_grammar.specs.Pieces.{Piece, Is, Bad}
-use Rattle.ir_grammar.specs.Names.{Names}
+use Rattle.ir_grammar.specs.Names.{Names, Begins}
 use Rattle.ir_grammar.specs.Sets.{Set}
 use Rattle.ir_grammar.specs.Forms.{Form, act, ret, Verdict, Takes, token, ◌>>=◌, either, choose, Rounds, rounds, located}
 use Rattle.ir_grammar.specs.Tokens.{expect, sign, skip, many, behind_comma, listed}
@@ -58,9 +58,7 @@ pub record Fine (s : Names) : Type 0 where
   pub locals : Once s.locals
   pub clean : Each IsClean s.symbols
 
--- these names begin a list of names
-abbrev pub Begins : List (List ℕ) → List (List ℕ) → Type 0
-Begins all names = (rest : List (List ℕ)) × (names ++ rest ≡ all)
+-- ---- names that begin a list of names
 
 pub begins_same : (xs : List (List ℕ)) → Begins xs xs
 begins_same xs = ([], append-nil xs)

@@ -10,9 +10,9 @@ use Rattle.std.specs.Fmt.{decimal}
 use Rattle.ir_core.specs.declared.module.SymId.{SymId}
 use Rattle.ir_core.specs.declared.ty.TypeName.{TypeName}
 use Rattle.ir_core.specs.declared.op.LocalId.{LocalId}
-use Rattle.ir_grammar.specs.Names.{Names, placed, numbered, symbol, type_name, local, next_behind, define, define_next}
+use Rattle.ir_grammar.specs.Names.{Names, Begins, placed, numbered, symbol, type_name, local, next_behind, define, define_next}
 use Rattle.ir_grammar.specs.Forms.{act}
-use Rattle.ir_proper.proofs.Kept.{each_push, IsClean, Once, Fine, Begins, begins_same, begins_length, LocalsGrow, Grows, Keeps, keeps_act}
+use Rattle.ir_proper.proofs.Kept.{each_push, IsClean, Once, Fine, begins_same, begins_length, LocalsGrow, Grows, Keeps, keeps_act}
 
 -- the place is within the list that there is then
 pub placed_within : (o : Option ℕ) (name : List ℕ) (xs : List (List ℕ)) → ((k : ℕ) → o ≡ Some k → k < length xs) → (placed o name xs).0 < length (placed o name xs).1

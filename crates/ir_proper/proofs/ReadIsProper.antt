@@ -133,6 +133,15 @@ proper_text ts m t c r few =
     let count = subst (λ (y : modules.Module). length (sites y) ≤ 4096) g.3 few in
     subst IsProper (sym g.3) (proper_made t g.0 g.1 g.2 x.1 symbols types count)
 
+-- a text within the limits defines no more functions
+pub few_functions : (bytes : List ℕ) (m : modules.Module) → ReadsWithinLimits bytes m → length m.funcs ≤ 4096
+few_functions bytes m h =
+    let g = ((keeps_text_form {n = h.0} {H = Unit {0}}).holds tt no_names (pieces bytes) m h.0 (clean_pieces bytes) no_names_fine h.1 (grows_same false h.0)).0 in
+    let less = g.2.few in
+    let same = length-map g.0.definitions (function_of g.0.noinline) in
+    let funcs = ap (λ (y : modules.Module). length y.funcs) g.3 in
+    omega (arith, less, same, funcs)
+
 pub read_is_proper : (bytes : List ℕ) (m : modules.Module) → ReadsWithinLimits bytes m → length (sites m) ≤ 4096 → IsProper m
 read_is_proper bytes m h few = proper_text (pieces bytes) m h.0 (clean_pieces bytes) h.1 few
 
