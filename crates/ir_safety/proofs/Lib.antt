@@ -14,3 +14,4 @@ pub mod Callees
 pub mod RowUses
 pub mod Assigned
 pub mod ValidRuns
+pub mod Decided
