@@ -43,7 +43,7 @@ use Rattle.ir_core.specs.ValidModule.{Introduced, introduced, introduced_globals
 use Rattle.ir_core.specs.ValidOps.{IsScalar, op_result, LocalHasType, OperandAgrees, OpAgrees, EndAgrees, DoesAgree, StepAgrees, OperandFits, CountFits, IsDefinedAs, IsExternal, CallsWell}
 use Rattle.ir_core.proofs.Lists.{Has, Each, has_left, has_right, has_part, has_at, at_has, contains, has_source, all_at, has_in, has_mapped, map_source, mapped}
 use Rattle.ir_safety.proofs.Safe.{NotFalse, true_too, and_so, in_turn, IsTypedInstr, IsTypedEnd}
-use Rattle.ir_safety.proofs.PlainTypes.{func_types, result_scalar, func_type, plain_funcs}
+use Rattle.ir_safety.specs.PlainTypes.{func_types, result_scalar, func_type, plain_funcs}
 use Rattle.ir_safety.proofs.Named.{Two, introduced_once, HasFunc, named_func, named_any}
 
 -- ---- lists

@@ -40,7 +40,7 @@ use Rattle.ir_core.specs.ValidModule.{HasMain, Introduced, introduced_globals, i
 use Rattle.ir_core.specs.ValidOps.{IsDefinedAs, IsExternal, IsDeclaredAs, CallsWell}
 use Rattle.ir_core.proofs.Lists.{Has, has_at, at_has, has_part, contains, has_source, element, place_within, place_has, all_at, has_in, mapped}
 use Rattle.ir_safety.proofs.Safe.{NotFalse, in_turn}
-use Rattle.ir_safety.proofs.PlainTypes.{func_type, result_scalar, plain_funcs}
+use Rattle.ir_safety.specs.PlainTypes.{func_type, result_scalar, plain_funcs}
 use Rattle.ir_safety.proofs.Registers.{mapped_twice}
 use Rattle.ir_safety.proofs.Named.{same_symbol, introduced_once}
 

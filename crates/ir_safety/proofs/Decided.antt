@@ -27,7 +27,7 @@ use Rattle.ir_core.specs.declared.flat.FlatBody.{FlatBody}
 use Rattle.ir_core.specs.Memory.{scalar_size}
 use Rattle.ir_core.specs.Flat.{Program}
 use Rattle.ir_core.specs.Formed.{FuncType, HasType, is_cast, IsAlign, Receives, AllTyped, IsTyped, ReturnsType, DifferentCases, IsEndTyped}
-use Rattle.ir_core.specs.Formed.{IsBlock, IsEdge, IsPath, IsWritten, ComesIn, ComesFirst, DefinedFirst, written_by, used_by, used_at_end}
+use Rattle.ir_core.specs.Formed.{IsBlock, IsEdge, IsPath, IsWritten, ComesIn, ComesFirst, DefinedFirst, written_by, used_by, used_at_end, targets}
 use Rattle.ir_core.proofs.Lists.{Has, contains, has_in}
 use Rattle.ir_safety.proofs.Safe.{NotFalse, IsTypedInstr, IsTypedEnd, IsSafeBody, IsSafe}
 
@@ -67,6 +67,9 @@ either (inr n) (inr k) = inr (λ h. ⊎_elim n k h)
 
 pub is_less : (a b : ℕ) → Decided (a < b)
 is_less a b = ⊎_elim (λ lt. inl lt) (λ ge. inr (λ lt. absurd (omega (arith, lt, ge)))) (cases_lt a b)
+
+pub is_at_most : (a b : ℕ) → Decided (a ≤ b)
+is_at_most a b = ⊎_elim (λ lt. inr (λ le. absurd (omega (arith, lt, le)))) (λ le. inl le) (cases_lt b a)
 
 -- ---- options and lists
 
@@ -228,6 +231,9 @@ module _ (types : ℕ → Scalar) where
   end_typed result (Switch a w cases other) = has_type a (scalar.Word w)
   end_typed result Unreachable = always
 
+pub is_align : (k : ℕ) → Decided (IsAlign k)
+is_align k = is_contained cases_eq (1 ∷ 2 ∷ 4 ∷ 8 ∷ 16 ∷ []) k
+
 -- ---- definitions on a path
 
 pub is_written : (k : FlatBlock) (n r : ℕ) → Decided (IsWritten k n r)
@@ -246,6 +252,51 @@ comes_first body older k n (Word a) = always
 comes_first body older k n Null = always
 comes_first body older k n (Address g a) = always
 comes_first body older k n Poison = always
+
+-- ---- edges and operands
+
+pub is_edge : (body : FlatBody) (a b : ℕ) → Decided (IsEdge body a b)
+is_edge body a b = one_is (λ (k : FlatBlock). Contains (targets k.end) b) (λ (k : FlatBlock). is_contained cases_eq (targets k.end) b) (slice_get body.blocks a)
+
+-- an operand as three numbers
+abbrev kind : FlatOp → ℕ
+kind (Reg r) = 0
+kind (Word a) = 1
+kind Null = 2
+kind (Address g k) = 3
+kind Poison = 4
+
+abbrev number : FlatOp → ℕ
+number (Reg r) = r.0
+number (Word a) = a
+number Null = 0
+number (Address g k) = g
+number Poison = 0
+
+abbrev offset : FlatOp → ℕ
+offset (Address g k) = k
+offset o = 0
+
+abbrev built : ℕ → ℕ → ℕ → FlatOp
+built zero a k = Reg (record { 0 = a })
+built (suc zero) a k = Word a
+built (suc (suc zero)) a k = Null
+built (suc (suc (suc zero))) a k = Address a k
+built (suc (suc (suc (suc n)))) a k = Poison
+
+rebuilt : (o : FlatOp) → built (kind o) (number o) (offset o) ≡ o
+rebuilt (Reg r) = refl
+rebuilt (Word a) = refl
+rebuilt Null = refl
+rebuilt (Address g k) = refl
+rebuilt Poison = refl
+
+pub same_operand : (a b : FlatOp) → Decided (a ≡ b)
+same_operand a b = alike built_same (λ e. (ap kind e, ap number e, ap offset e)) (all_three (cases_eq (kind a) (kind b)) (cases_eq (number a) (number b)) (cases_eq (offset a) (offset b)))
+  where
+    built_same : (kind a ≡ kind b) × (number a ≡ number b) × (offset a ≡ offset b) → a ≡ b
+    built_same e =
+        sym (rebuilt a) ∙ ap (λ (x : ℕ). built x (number a) (offset a)) e.0 ∙ ap (λ (x : ℕ). built (kind b) x (offset a)) e.1 ∙ ap (λ (x : ℕ). built (kind b) (number b) x) e.2 ∙ rebuilt b
 
 -- ---- bodies and programs
 

@@ -1,5 +1,4 @@
 pub mod Safe
-pub mod PlainTypes
 pub mod Typed
 pub mod Named
 pub mod Effects
@@ -15,3 +14,13 @@ pub mod RowUses
 pub mod Assigned
 pub mod ValidRuns
 pub mod Decided
+pub mod PlainEdges
+pub mod PlainRows
+pub mod Once
+pub mod FormedNumbers
+pub mod FormedUses
+pub mod OperandMeanings
+pub mod FormedPhis
+pub mod TypeSizes
+pub mod FormedSizes
+pub mod FormedBodies

@@ -34,7 +34,7 @@ use Rattle.ir_core.specs.ValidFunc.{LocalAt, instr_local, block_locals_at, local
 use Rattle.ir_core.specs.ValidOps.{op_result, LocalHasType, ConstAgrees, ValueAgrees, OperandAgrees, ConstFits, OperandFits}
 use Rattle.ir_core.proofs.Lists.{Has, Each, Apart, each_of, has_left, has_right, has_part, place, has_in, has_mapped, has_made, apart_mapped, mapped_parts}
 use Rattle.ir_core.proofs.SoundRules.{key, same_name}
-use Rattle.ir_safety.proofs.PlainTypes.{register_types, func_types, func_type}
+use Rattle.ir_safety.specs.PlainTypes.{register_types, func_types, func_type}
 use Rattle.ir_safety.proofs.Typed.{some_words, word_small}
 
 -- ---- lists

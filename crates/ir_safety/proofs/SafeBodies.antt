@@ -23,7 +23,7 @@ use Rattle.ir_core.specs.Proper.{IsProper}
 use Rattle.ir_core.specs.Valid.{IsValid}
 use Rattle.ir_core.proofs.Lists.{mapped}
 use Rattle.ir_safety.proofs.Safe.{NotFalse, IsTypedInstr, IsTypedEnd, IsSafeBody, IsSafe}
-use Rattle.ir_safety.proofs.PlainTypes.{func_types, func_type, plain_types, plain_funcs}
+use Rattle.ir_safety.specs.PlainTypes.{func_types, func_type, plain_types, plain_funcs}
 use Rattle.ir_safety.proofs.Labels.{entry_safe, in_range_safe, phis_safe}
 
 -- ---- what is known of each function, and of the whole

@@ -15,7 +15,7 @@ use Rattle.ir_core.specs.ValidOps.{IsDefinedAs}
 use Rattle.ir_core.proofs.SoundRules.{runs_as_the_source_where_valid}
 use Rattle.ir_core.proofs.Lists.{all_at}
 use Rattle.ir_safety.proofs.Safe.{NotFalse, true_too, IsSafe}
-use Rattle.ir_safety.proofs.PlainTypes.{result_scalar, plain_types, plain_funcs}
+use Rattle.ir_safety.specs.PlainTypes.{result_scalar, plain_types, plain_funcs}
 use Rattle.ir_safety.proofs.NeverStuck.{never_stuck}
 use Rattle.ir_safety.proofs.Registers.{local_type, own_params, operand_typed}
 use Rattle.ir_safety.proofs.Callees.{callee_type, has_main, main_type, called}
@@ -30,7 +30,7 @@ module _ (m : Module) (proper : IsProper m) (valid : IsValid m) where
   callee : (s : SymId) (t : IrType) (ts : List IrType) → IsDefinedAs m s t ts → NotFalse (((plain_funcs m (func_number m s)).params ≡ map scalar_of ts) × ((plain_funcs m (func_number m s)).result ≡ result_scalar t))
   callee s t ts d = true_too (callee_type m valid s t ts d)
 
-  plain_is_safe : IsSafe (plain_program m) (plain_types m) (plain_funcs m)
+  pub plain_is_safe : IsSafe (plain_program m) (plain_types m) (plain_funcs m)
   plain_is_safe =
       plain_bodies_safe m proper valid own_params
       (λ g f at. phi_types m g f proper valid at (operand_typed m f (func_valid g f at)) (local_type m f (func_valid g f at)) callee)

@@ -4,9 +4,11 @@ ghost use Rattle.ir_core.specs.declared.flat.Scalar.{Scalar};
 ghost use Rattle.ir_core.specs.declared.module.Module as modules;
 ghost use Rattle.ir_core.specs.Flat.{Program, flat_run};
 ghost use Rattle.ir_core.specs.Formed.{FuncType, IsFormed};
+ghost use Rattle.ir_core.specs.Plain.{plain_program};
 ghost use Rattle.ir_core.specs.Proper.{IsProper};
 ghost use Rattle.ir_core.specs.Source.{src};
 ghost use Rattle.ir_core.specs.Valid.{IsValid};
+ghost use Rattle.ir_safety.specs.PlainTypes.{plain_types, plain_funcs, HasFewNumbers};
 
 /// No run of a proper and valid module is stuck, on any input of bytes: each operand has a value when it is used, and that
 /// is of the type that the operation asks for. It does nothing: its contract is the law.
@@ -18,4 +20,10 @@ pub fn a_valid_run_is_never_stuck()
 /// formed. It does nothing: its contract is the law.
 pub fn a_formed_run_is_never_stuck()
     ensures { (p : Program) (types : ℕ → ℕ → Scalar) (funcs : ℕ → FuncType) → IsFormed p types funcs → (input : List ℕ) → All (λ b. b < 256) input → (n : ℕ) → (flat_run p input n).status ≢ Stuck }
+{}
+
+/// The plain bodies of a proper and valid module are formed under the types of its registers and functions, where its
+/// functions have fewer than 2^32 registers and blocks. It does nothing: its contract is the law.
+pub fn plain_bodies_are_formed()
+    ensures { (m : modules.Module) → IsProper m → IsValid m → HasFewNumbers m → IsFormed (plain_program m) (plain_types m) (plain_funcs m) }
 {}

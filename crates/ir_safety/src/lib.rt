@@ -1,6 +1,7 @@
-//! Type safety: that no run of a valid module, and none of a formed program, is stuck.
+//! Type safety: that no run of a valid module, and none of a formed program, is stuck, and that the plain bodies of a valid
+//! module are formed.
 #![tactic(auto)]
 
 mod laws;
 
-pub use laws::{a_formed_run_is_never_stuck, a_valid_run_is_never_stuck};
+pub use laws::{a_formed_run_is_never_stuck, a_valid_run_is_never_stuck, plain_bodies_are_formed};

@@ -1,6 +1,5 @@
 -- The types of the registers of a module's plain bodies, and those of its functions.
-use Rattle.std.proofs.Common.{ℕ, List, [], ◌++◌, map, Option, Some, None, slice_get}
-use Rattle.std.specs.Prelude.{unwrap_or}
+use Rattle.std.specs.Prelude.{ℕ, ◌<◌, List, [], ◌++◌, map, length, All, Option, Some, None, slice_get, unwrap_or}
 use Rattle.std.specs.List.{flat_map, filter_map}
 use Rattle.std.specs.Option.{option_map, option_map_or}
 use Rattle.ir_core.specs.declared.flat.Scalar.{Scalar}
@@ -13,6 +12,7 @@ use Rattle.ir_core.specs.declared.func.Param.{Param}
 use Rattle.ir_core.specs.declared.module.Module.{Module}
 use Rattle.ir_core.specs.Constants.{scalar_of}
 use Rattle.ir_core.specs.Formed.{FuncType}
+use Rattle.ir_core.specs.Plain.{registers}
 use Rattle.ir_core.specs.ValidOps.{op_result}
 
 -- the type of an instruction's result, if it has one
@@ -47,3 +47,7 @@ plain_types m g = option_map_or func_types (slice_get m.funcs g) (λ (r : ℕ). 
 
 abbrev pub plain_funcs : Module → ℕ → FuncType
 plain_funcs m g = option_map_or func_type (slice_get m.funcs g) (record { params = []; result = None })
+
+-- registers and blocks of each function have numbers of 32 bits
+abbrev pub HasFewNumbers : Module → Type 0
+HasFewNumbers m = All (λ (f : Func). (length (registers f) < 4294967296) × (length f.blocks < 4294967296)) m.funcs

@@ -1,0 +1,73 @@
+-- The plain bodies of a proper and valid module are formed, where registers and blocks have numbers of 32 bits.
+use Rattle.std.proofs.Common.{◌≡◌, ℕ, ◌<◌, length, Option, Some, slice_get, All, sym, ap, subst}
+use Rattle.std.specs.Option.{option_map_or}
+use Rattle.std.specs.Prelude.{[], None}
+use Rattle.std.proofs.lemmas.List.{length-map}
+use Rattle.ir_core.specs.declared.flat.Scalar.{Scalar}
+use Rattle.ir_core.specs.declared.flat.FlatBody.{FlatBody}
+use Rattle.ir_core.specs.declared.ty.IrType.{Void}
+use Rattle.ir_core.specs.declared.func.Block.{Block}
+use Rattle.ir_core.specs.declared.func.Func.{Func}
+use Rattle.ir_core.specs.declared.module.Module.{Module}
+use Rattle.ir_core.specs.Constants.{scalar_of, global_memory}
+use Rattle.ir_core.specs.Instructions.{block_rows}
+use Rattle.ir_core.specs.Formed.{FuncType, all_uses, NamesGlobal, IsFormedBody, IsFormed}
+use Rattle.ir_core.specs.Plain.{registers, renumbered, numbers, plain_body, plain_program}
+use Rattle.ir_core.specs.Proper.{IsProper}
+use Rattle.ir_core.specs.Valid.{IsValid}
+use Rattle.ir_core.proofs.Lists.{all_at, mapped}
+use Rattle.ir_safety.specs.PlainTypes.{func_types, func_type, plain_types, plain_funcs, HasFewNumbers}
+use Rattle.ir_safety.proofs.Decided.{IsKnownBody, IsKnown, known, defined_first, typed, typed_end}
+use Rattle.ir_safety.proofs.FormedNumbers.{no_way_back, few_params, written_once, written}
+use Rattle.ir_safety.proofs.FormedUses.{used, addresses}
+use Rattle.ir_safety.proofs.FormedPhis.{phi_formed, phi_register}
+use Rattle.ir_safety.proofs.FormedSizes.{code_sizes, flat_cases}
+use Rattle.ir_safety.proofs.ValidRuns.{plain_is_safe}
+
+module _ (m : Module) (proper : IsProper m) (valid : IsValid m) (few : HasFewNumbers m) where
+  facts : IsKnown (plain_program m) (plain_types m) (plain_funcs m)
+  facts = known (plain_program m) (plain_types m) (plain_funcs m) (plain_is_safe m proper valid)
+
+  body_formed : (g : ℕ) (f : Func) → slice_get m.funcs g ≡ Some f → IsKnownBody (func_types f) (plain_funcs m) (func_type f) (plain_body m f) → IsFormedBody (func_types f) (plain_funcs m) (func_type f) (plain_body m f)
+  body_formed g f at h =
+      let numbered = all_at (λ (x : Func). (length (registers x) < 4294967296) × (length x.blocks < 4294967296)) m.funcs g f few at in
+      record {
+        entry = h.entry;
+        no_way_back = no_way_back m proper valid g f at;
+        few_params = few_params m proper valid g f at;
+        numbers = (numbered.0, subst (λ (n : ℕ). n < 4294967296) (sym (length-map f.blocks (λ (b : Block). renumbered (numbers f) (block_rows m b)))) numbered.1);
+        own_params = h.own_params;
+        in_range = h.in_range;
+        phis = λ b k q is has. (phi_formed m proper valid g f at b k q is has, phi_register m proper valid g f at b k q is has, h.phi_types b k q is has);
+        code = λ b n k i is there. typed (func_types f) (plain_funcs m) i (h.code b n k i is there) (code_sizes m g f proper valid at b n k i is there);
+        written_once = written_once m proper valid g f at;
+        written = written m proper valid g f at;
+        used = used m proper valid g f at;
+        ends = λ b k is. typed_end (func_types f) (func_type f).result k.end (h.ends b k is) (flat_cases m g f proper valid at b k is);
+        defined_first = defined_first (func_types f) (plain_funcs m) (func_type f) (plain_body m f) h;
+      }
+
+  -- the types of function g are those of the function that stands there
+  placed : (g : ℕ) (body : FlatBody) → IsKnownBody (plain_types m g) (plain_funcs m) (plain_funcs m g) body → (f : Func) × (slice_get m.funcs g ≡ Some f) × (plain_body m f ≡ body) → IsFormedBody (plain_types m g) (plain_funcs m) (plain_funcs m g) body
+  placed g body h (f, at, same) =
+      let types : plain_types m g ≡ func_types f = ap (λ (o : Option Func). option_map_or func_types o (λ (r : ℕ). scalar_of Void)) at in
+      let own : plain_funcs m g ≡ func_type f = ap (λ (o : Option Func). option_map_or func_type o (record { params = []; result = None })) at in
+      let here : IsKnownBody (func_types f) (plain_funcs m) (func_type f) (plain_body m f) =
+      subst (λ (ts : ℕ → Scalar). IsKnownBody ts (plain_funcs m) (func_type f) (plain_body m f)) types
+      (subst (λ (t : FuncType). IsKnownBody (plain_types m g) (plain_funcs m) t (plain_body m f)) own
+      (subst (λ (x : FlatBody). IsKnownBody (plain_types m g) (plain_funcs m) (plain_funcs m g) x) (sym same) h)) in
+      subst (λ (ts : ℕ → Scalar). IsFormedBody ts (plain_funcs m) (plain_funcs m g) body) (sym types)
+      (subst (λ (t : FuncType). IsFormedBody (func_types f) (plain_funcs m) t body) (sym own)
+      (subst (λ (x : FlatBody). IsFormedBody (func_types f) (plain_funcs m) (func_type f) x) same (body_formed g f at here)))
+
+  named : (g : ℕ) (body : FlatBody) → (f : Func) × (slice_get m.funcs g ≡ Some f) × (plain_body m f ≡ body) → All (NamesGlobal (length (global_memory m))) (all_uses body)
+  named g body (f, at, same) = subst (λ (x : FlatBody). All (NamesGlobal (length (global_memory m))) (all_uses x)) same (addresses m proper valid g f at)
+
+  pub plain_is_formed : IsFormed (plain_program m) (plain_types m) (plain_funcs m)
+  plain_is_formed = record {
+    bodies = λ g body e. placed g body (facts.bodies g body e) (mapped (plain_body m) (slice_get m.funcs g) body e);
+    has_main = facts.has_main;
+    main_type = facts.main_type;
+    called = facts.called;
+    addresses = λ g body e. named g body (mapped (plain_body m) (slice_get m.funcs g) body e);
+  }

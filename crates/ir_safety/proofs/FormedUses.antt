@@ -1,0 +1,235 @@
+-- The operands of a plain body: each register among them is a parameter or written, and each address is that of a global variable.
+use Rattle.std.proofs.Common.{◌≡◌, ◌⊎◌, inl, inr, ℕ, suc, ◌<◌, ◌==◌, Bool, true, false, List, [], ◌∷◌, ◌++◌, map, length, Option, Some, slice_get, All, Contains, refl, sym, ap, subst, arith}
+use Rattle.std.specs.List.{flat_map, filter_map}
+use Rattle.std.proofs.lemmas.Bool.{cases_eq}
+use Rattle.std.proofs.lemmas.Bool.Decides.{nat_tests}
+use Rattle.std.proofs.lemmas.List.{length-map}
+use Rattle.std.proofs.lemmas.List.Folds.{flat_map-map}
+use Rattle.std.proofs.lemmas.List.Elements.{All-from_recursion, All-contains}
+use Rattle.ir_core.specs.declared.flat.Scalar.{Scalar}
+use Rattle.ir_core.specs.declared.flat.Scalar.TheVariants as scalar
+use Rattle.ir_core.specs.declared.flat.FlatOp.{FlatOp}
+use Rattle.ir_core.specs.declared.flat.FlatOp.TheVariants.{Poison}
+use Rattle.ir_core.specs.declared.flat.Entry.{Entry}
+use Rattle.ir_core.specs.declared.flat.Phi.{Phi}
+use Rattle.ir_core.specs.declared.flat.FlatInstr.{FlatInstr}
+use Rattle.ir_core.specs.declared.ty.IrType.{IrType}
+use Rattle.ir_core.specs.declared.constant.Const.{Const}
+use Rattle.ir_core.specs.declared.constant.Const as consts
+use Rattle.ir_core.specs.declared.module.SymId.{SymId}
+use Rattle.ir_core.specs.declared.module.GlobalVar.{GlobalVar}
+use Rattle.ir_core.specs.declared.module.Module.{Module}
+use Rattle.ir_core.specs.declared.op.LocalId.{LocalId}
+use Rattle.ir_core.specs.declared.op.Operand.{Operand}
+use Rattle.ir_core.specs.declared.op.Operand.TheVariants as operands
+use Rattle.ir_core.specs.declared.op.TypedOperand.{TypedOperand}
+use Rattle.ir_core.specs.declared.op.Pair.{Pair}
+use Rattle.ir_core.specs.declared.op.Op.{Op}
+use Rattle.ir_core.specs.declared.op.Op.TheVariants as ops
+use Rattle.ir_core.specs.declared.func.Instr.{Instr}
+use Rattle.ir_core.specs.declared.func.Block.{Block}
+use Rattle.ir_core.specs.declared.func.Func.{Func}
+use Rattle.ir_core.specs.declared.func.Param.{Param}
+use Rattle.ir_core.specs.Parts.{instrs}
+use Rattle.ir_core.specs.Stands.{Step, Does, Ends, block_steps, steps, place_of, op_operands, operands_of}
+use Rattle.ir_core.specs.Stands.{typed as with_type}
+use Rattle.ir_core.specs.Constants.{zero_of, scalar_of, constant, global_number, global_block, global_memory}
+use Rattle.ir_core.specs.Formed.{used_by, used_at_end, uses, all_uses, all_writes, IsParamOrWritten, NamesGlobal}
+use Rattle.ir_core.specs.Instructions.{operand, typed, entry, terminator, block_rows}
+use Rattle.ir_core.specs.Plain.{other_operand, other_instr, other_entry, other_phi, numbers, results, plain_body}
+use Rattle.ir_core.specs.Proper.{HasItsResult, IsProper, IsProperFunc}
+use Rattle.ir_core.specs.Valid.{IsValid, IsValidFunc}
+use Rattle.ir_core.specs.ValidConsts.{IsVariable}
+use Rattle.ir_core.specs.ValidFunc.{IsParam, IsRegister, IsKnown}
+use Rattle.ir_core.proofs.Lists.{Has, Each, each_of, each_from, has_left, has_right, has_part, has_made, has_mapped, has_source, map_source, contains, has_in, all_at, place, place_within}
+use Rattle.ir_safety.proofs.Safe.{NotFalse, and_so, in_turn, true_too}
+use Rattle.ir_safety.proofs.Registers.{in_part}
+use Rattle.ir_safety.proofs.RowUses.{used_other, end_used_other, HasRow, has_row}
+use Rattle.ir_safety.proofs.Decided.{so, is_less, is_contained, either}
+use Rattle.ir_safety.proofs.PlainEdges.{row}
+use Rattle.ir_safety.proofs.PlainRows.{IsOneOf, row_is, end_among, phi_is}
+use Rattle.ir_safety.proofs.Once.{each_joined}
+use Rattle.ir_safety.proofs.FormedNumbers.{instr_row, phi_row, phi_names, row_names, written_names, name, all_named, writes_all}
+
+-- ---- lists
+
+each_made : {A B : Type 0} (P : B → Type 0) (g : A → B) (xs : List A) → ((x : A) → Has xs x → P (g x)) → Each P (map g xs)
+each_made P g xs h = each_from P (map g xs) (λ y k. let x = map_source g xs y k in subst P x.2 (h x.0 x.1))
+
+each_in_parts : {A B : Type 0} (P : B → Type 0) (g : A → List B) (xs : List A) → ((x : A) → Has xs x → Each P (g x)) → Each P (flat_map g xs)
+each_in_parts P g xs h = each_from P (flat_map g xs) (λ y k. let x = in_part g xs y k in each_of P (g x.0) y (h x.0 x.1) x.2)
+
+-- ---- what is used comes from an operand of an instruction or a terminator
+
+module _ (m : Module) (f : Func) (P : FlatOp → Type 0) (poison : P Poison) (each : (s : Step) (a : TypedOperand) → Has (steps f) s → Has (operands_of s) a → P (other_operand (numbers f) (typed m a))) where
+  of_step : (s : Step) → Has (steps f) s → (o : FlatOp) → IsOneOf m (operands_of s) o → P (other_operand (numbers f) o)
+  of_step s hs o (inl e) = subst (λ (z : FlatOp). P (other_operand (numbers f) z)) (sym e) poison
+  of_step s hs o (inr (a, ha, e)) = subst (λ (z : FlatOp). P (other_operand (numbers f) z)) e (each s a hs ha)
+
+  of_steps : (s : Step) → Has (steps f) s → (os : List FlatOp) → Each (IsOneOf m (operands_of s)) os → Each P (map (other_operand (numbers f)) os)
+  of_steps s hs os h = each_made P (other_operand (numbers f)) os (λ o k. of_step s hs o (each_of (IsOneOf m (operands_of s)) os o h k))
+
+  module _ (b : Block) (here : Has f.blocks b) where
+    does : (i : Instr) → Has b.code i → Has (steps f) (Does i)
+    does i h = has_part block_steps f.blocks b (Does i) here (has_left (map (λ (j : Instr). Does j) b.code) (Ends b ∷ []) (Does i) (has_mapped (λ (j : Instr). Does j) b.code i h))
+
+    by_end : Each P (used_at_end (row m f b).end)
+    by_end =
+        let ends : Has (steps f) (Ends b) = has_part block_steps f.blocks b (Ends b) here (has_right (map (λ (j : Instr). Does j) b.code) (Ends b ∷ []) (Ends b) (inl refl)) in
+        subst (Each P) (sym (end_used_other (numbers f) (terminator m b.end))) (of_steps (Ends b) ends (used_at_end (terminator m b.end)) (end_among m b.end))
+
+    by_code : Each P (flat_map used_by (row m f b).code)
+    by_code = each_in_parts P used_by (row m f b).code (λ z h.
+        let w = map_source (other_instr (numbers f)) (block_rows m b).code z h in
+        let i = has_source (instr_row m) b.code w.0 w.1 in
+        subst (λ (v : FlatInstr). Each P (used_by v)) w.2
+        (subst (Each P) (sym (used_other (numbers f) w.0)) (of_steps (Does i.0) (does i.0 i.1) (used_by w.0) (row_is m i.0.result i.0.op w.0 i.2).1)))
+
+    by_pair : (i : Instr) → Has b.code i → (t : IrType) (ps : List Pair) → i.op ≡ ops.Phi t ps → (p : Pair) → Has ps p → P (other_operand (numbers f) (operand m t p.value))
+    by_pair i hi t ps e p hp =
+        let among : Has (op_operands i.op) (with_type t p.value) = subst (λ (o : Op). Has (op_operands o) (with_type t p.value)) (sym e) (has_mapped (λ (q : Pair). with_type t q.value) ps p hp) in
+        each (Does i) (with_type t p.value) (does i hi) among
+
+    by_phis : Each P (flat_map (λ (q : Phi). map (λ (e : Entry). e.value) q.entries) (row m f b).phis)
+    by_phis = each_in_parts P (λ (q : Phi). map (λ (e : Entry). e.value) q.entries) (row m f b).phis (λ z h.
+        let q = map_source (other_phi (numbers f)) (block_rows m b).phis z h in
+        let i = has_source (phi_row m) b.code q.0 q.1 in
+        let s = phi_is m i.0.result i.0.op q.0 i.2 in
+        subst (λ (y : Phi). Each P (map (λ (e : Entry). e.value) y.entries)) q.2
+        (subst (λ (es : List Entry). Each P (map (λ (e : Entry). e.value) (map (other_entry (numbers f)) es))) (sym s.entries)
+        (each_made P (λ (e : Entry). e.value) (map (other_entry (numbers f)) (map (entry m s.ty) s.pairs)) (λ e k.
+        let x = map_source (other_entry (numbers f)) (map (entry m s.ty) s.pairs) e k in
+        let p = map_source (entry m s.ty) s.pairs x.0 x.1 in
+        subst (λ (y : Entry). P y.value) x.2 (subst (λ (y : Entry). P (other_operand (numbers f) y.value)) p.2 (by_pair i.0 i.1 s.ty s.pairs s.is_phi p.0 p.1))))))
+
+    abbrev phi_values : List FlatOp
+    phi_values = flat_map (λ (q : Phi). map (λ (e : Entry). e.value) q.entries) (row m f b).phis
+
+    abbrev code_values : List FlatOp
+    code_values = flat_map used_by (row m f b).code
+
+    by_block : Each P (uses (row m f b))
+    by_block = each_joined P (phi_values ++ code_values) (used_at_end (row m f b).end) (each_joined P phi_values code_values by_phis by_code) by_end
+
+  all_used : All P (all_uses (plain_body m f))
+  all_used = subst (All P) (sym (flat_map-map uses (row m f) f.blocks)) (All-from_recursion P (flat_map (λ (b : Block). uses (row m f b)) f.blocks) (each_in_parts P (λ (b : Block). uses (row m f b)) f.blocks by_block))
+
+-- ---- registers
+
+-- a parameter has a number below theirs
+before_others : (ps : List Param) (ys : List LocalId) (q : Param) → Has ps q → place name (map (λ (p : Param). p.name) ps ++ ys) q.name.0 < length ps
+before_others [] ys q h = absurd h
+before_others (p ∷ ps) ys q h = by_test (p.name.0 == q.name.0) refl (λ k. before_others ps ys q k) h
+  where
+    by_test : (t : Bool) → (p.name.0 == q.name.0) ≡ t → (Has ps q → place name (map (λ (p : Param). p.name) ps ++ ys) q.name.0 < length ps) → (p ≡ q) ⊎ Has ps q
+        → place name (p.name ∷ (map (λ (p : Param). p.name) ps ++ ys)) q.name.0 < suc (length ps)
+    by_test true t rest k = rw t (omega arith)
+    by_test false t rest (inl same) = absurd (let k : p.name.0 ≡ q.name.0 = ap (λ (z : Param). z.name.0) same in grind (arith, nat_tests))
+    by_test false t rest (inr k) = rw t (let lt = rest k in omega (arith, lt))
+
+module _ (m : Module) (proper : IsProper m) (valid : IsValid m) (g : ℕ) (f : Func) (at : slice_get m.funcs g ≡ Some f) where
+  rules : IsValidFunc m f
+  rules = all_at (IsValidFunc m) m.funcs g f valid.each_func at
+
+  is_proper : IsProperFunc f
+  is_proper = all_at IsProperFunc m.funcs g f proper.each_func at
+
+  known : (s : Step) (a : TypedOperand) → Has (steps f) s → Has (operands_of s) a → NotFalse (IsKnown m f a.value)
+  known s a hs ha not = rules.references (place_of s) (s, contains (steps f) s hs, refl, inl (a, contains (operands_of s) a ha, not))
+
+  param_first : (x : LocalId) → IsParam f x → (numbers f).reg x.0 < length f.params
+  param_first x q = subst (λ (y : LocalId). (numbers f).reg y.0 < length f.params) q.2 (before_others f.params (flat_map results f.blocks) q.0 (has_in f.params q.0 q.1))
+
+  -- a result is written by a phi or another instruction
+  is_written : (x : LocalId) → IsRegister f x → NotFalse (Contains (all_writes (plain_body m f)) ((numbers f).reg x.0))
+  is_written x (i, stands, e) = in_turn there by_row
+    where
+      own : HasItsResult (record { place = i.place; result = Some x; op = i.op })
+      own = subst (λ (r : Option LocalId). HasItsResult (record { place = i.place; result = r; op = i.op })) e (All-contains HasItsResult (instrs f) i is_proper.results stands)
+
+      there : NotFalse (HasRow m x i.result i.op)
+      there = subst (λ (r : Option LocalId). NotFalse (HasRow m x r i.op)) (sym e) (has_row m i.place x i.op own (λ not. rules.calls i.place (i, stands, refl, not)))
+
+      block : (b : Block) × Has f.blocks b × Has b.code i
+      block = in_part (λ (b : Block). b.code) f.blocks i (has_in (instrs f) i stands)
+
+      named : HasRow m x i.result i.op → Has (written_names m block.0.code) x.0
+      named (inl (q, is, r)) =
+          let h = has_mapped (λ (p : Phi). p.reg.0) (filter_map (phi_row m) block.0.code) q (has_made (phi_row m) block.0.code i q block.2 is) in
+          has_left (phi_names m block.0.code) (row_names m block.0.code) x.0 (subst (Has (phi_names m block.0.code)) r h)
+      named (inr (w, is, r)) =
+          let h = has_made (instr_row m) block.0.code i w block.2 is in
+          has_right (phi_names m block.0.code) (row_names m block.0.code) x.0 (has_made _ (filter_map (instr_row m) block.0.code) w x.0 h r)
+
+      by_row : HasRow m x i.result i.op → Contains (all_writes (plain_body m f)) ((numbers f).reg x.0)
+      by_row h =
+          let all : Has (all_named m f) x.0 = has_part (λ (b : Block). written_names m b.code) f.blocks block.0 x.0 block.1 (named h) in
+          subst (λ (ys : List ℕ). Contains ys ((numbers f).reg x.0)) (sym (writes_all m f)) (contains (map (numbers f).reg (all_named m f)) ((numbers f).reg x.0) (has_mapped (numbers f).reg (all_named m f) x.0 all))
+
+  -- each register that is used is a parameter or written
+  pub used : All (IsParamOrWritten (plain_body m f)) (all_uses (plain_body m f))
+  used = all_used m f (IsParamOrWritten (plain_body m f)) tt (λ s a hs ha. by_value a.ty a.value (known s a hs ha))
+    where
+      by_zero : (s : Scalar) → IsParamOrWritten (plain_body m f) (other_operand (numbers f) (zero_of s))
+      by_zero (scalar.Word w) = tt
+      by_zero scalar.Pointer = tt
+
+      by_const : (t : IrType) (c : Const) → IsParamOrWritten (plain_body m f) (other_operand (numbers f) (constant m t c))
+      by_const t (consts.Int n) = tt
+      by_const t (consts.Bool b) = tt
+      by_const t consts.Null = tt
+      by_const t consts.Undef = by_zero (scalar_of t)
+      by_const t consts.Poison = tt
+      by_const t consts.Zero = tt
+      by_const t (consts.Bytes bs) = tt
+      by_const t (consts.Address s) = tt
+      by_const t (consts.Gep source s is) = tt
+      by_const t (consts.Array' n items) = tt
+      by_const t (consts.Struct' n items) = tt
+
+      by_value : (t : IrType) (v : Operand) → NotFalse (IsKnown m f v) → IsParamOrWritten (plain_body m f) (other_operand (numbers f) (operand m t v))
+      by_value t (operands.Const c) h = by_const t c
+      by_value t (operands.Local x) h = so (either (is_less ((numbers f).reg x.0) (length f.params)) (is_contained cases_eq (all_writes (plain_body m f)) ((numbers f).reg x.0))) (and_so h param_or_register)
+        where
+          param_or_register : IsParam f x ⊎ IsRegister f x → NotFalse (((numbers f).reg x.0 < length f.params) ⊎ Contains (all_writes (plain_body m f)) ((numbers f).reg x.0))
+          param_or_register (inl q) = true_too (inl (param_first x q))
+          param_or_register (inr i) = in_turn (is_written x i) (λ w. inr w)
+
+  -- ---- addresses
+
+  names_global : (s : SymId) → NotFalse (IsVariable m s) → global_number m s < length (global_memory m)
+  names_global s h = so (is_less (global_number m s) (length (global_memory m))) (in_turn h by_variable)
+    where
+      by_variable : IsVariable m s → global_number m s < length (global_memory m)
+      by_variable (v, has, e) =
+          let n : length (global_memory m) ≡ length m.globals = length-map m.globals (global_block m) in
+          let lt : global_number m v.name < length m.globals = place_within (λ (w : GlobalVar). w.name.0) m.globals v (has_in m.globals v has) in
+          subst (λ (k : ℕ). global_number m s < k) (sym n) (subst (λ (y : SymId). global_number m y < length m.globals) e lt)
+
+  -- each address that is used is that of a global variable
+  pub addresses : All (NamesGlobal (length (global_memory m))) (all_uses (plain_body m f))
+  addresses = all_used m f Names tt (λ s a hs ha. by_value a.ty a.value (known s a hs ha))
+    where
+      Names : FlatOp → Type 0
+      Names o = NamesGlobal (length (global_memory m)) o
+
+      by_zero : (s : Scalar) → Names (other_operand (numbers f) (zero_of s))
+      by_zero (scalar.Word w) = tt
+      by_zero scalar.Pointer = tt
+
+      by_const : (t : IrType) (c : Const) → NotFalse (IsKnown m f (operands.Const c)) → Names (other_operand (numbers f) (constant m t c))
+      by_const t (consts.Int n) h = tt
+      by_const t (consts.Bool b) h = tt
+      by_const t consts.Null h = tt
+      by_const t consts.Undef h = by_zero (scalar_of t)
+      by_const t consts.Poison h = tt
+      by_const t consts.Zero h = tt
+      by_const t (consts.Bytes bs) h = tt
+      by_const t (consts.Address s) h = names_global s (in_turn h (λ k. k s (contains (s ∷ []) s (inl refl))))
+      by_const t (consts.Gep source s is) h = names_global s (in_turn h (λ k. k s (contains (s ∷ []) s (inl refl))))
+      by_const t (consts.Array' n items) h = tt
+      by_const t (consts.Struct' n items) h = tt
+
+      by_value : (t : IrType) (v : Operand) → NotFalse (IsKnown m f v) → Names (other_operand (numbers f) (operand m t v))
+      by_value t (operands.Local x) h = tt
+      by_value t (operands.Const c) h = by_const t c h
