@@ -67,9 +67,9 @@ module _ (m : Module) where
   -- what is written is a result
   pub is_named : (code : List Instr) (x : ℕ) → Has (written_names code) x → Has (result_names code) x
   is_named code x h =
-      each_of (Has (result_names code)) (written_names code) x
-      (each_joined (Has (result_names code)) (phi_names code) (row_names code) (each_from (Has (result_names code)) (phi_names code) (by_phi code)) (each_from (Has (result_names code)) (row_names code) (by_row code)))
-      h
+      let phis : Each (Has (result_names code)) (phi_names code) = each_from (Has (result_names code)) (phi_names code) (by_phi code) in
+      let rows : Each (Has (result_names code)) (row_names code) = each_from (Has (result_names code)) (row_names code) (by_row code) in
+      each_of (Has (result_names code)) (written_names code) x (each_joined (Has (result_names code)) (phi_names code) (row_names code) phis rows) h
 
   behind : (r : Option LocalId) (xs : List LocalId) → Apart (map (λ (x : LocalId). x.0) (cons_option r xs)) → Apart (map (λ (x : LocalId). x.0) xs)
   behind None xs a = a
@@ -141,7 +141,8 @@ past_params : (ps : List Param) (ys : List LocalId) (x : ℕ) → Each (λ (p : 
 past_params [] ys x e = omega arith
 past_params (p ∷ ps) ys x e = by_test (p.name.0 == x) refl (past_params ps ys x e.1)
   where
-    by_test : (t : Bool) → (p.name.0 == x) ≡ t → length ps ≤ place name (map (λ (q : Param). q.name) ps ++ ys) x → suc (length ps) ≤ place name (p.name ∷ (map (λ (q : Param). q.name) ps ++ ys)) x
+    by_test : (t : Bool) → (p.name.0 == x) ≡ t → length ps ≤ place name (map (λ (q : Param). q.name) ps ++ ys) x
+        → suc (length ps) ≤ place name (p.name ∷ (map (λ (q : Param). q.name) ps ++ ys)) x
     by_test true t rest = absurd (e.0 (grind (arith, nat_tests)))
     by_test false t rest = rw t (omega (arith, rest))
 
@@ -197,7 +198,8 @@ module _ (m : Module) (proper : IsProper m) (valid : IsValid m) (g : ℕ) (f : F
       is_in : (r : ℕ) → Has (map (numbers f).reg (all_named m f)) r → IsIn r
       is_in r h =
           let x = map_source (numbers f).reg (all_named m f) r h in
-          subst IsIn x.2 (past_params f.params (flat_map results f.blocks) x.0 (no_param m f rules x.0 (own_name m f x.0 x.1)), place_within name (registers f) (record { 0 = x.0 }) (is_register m f x.0 x.1))
+          let behind : length f.params ≤ (numbers f).reg x.0 = past_params f.params (flat_map results f.blocks) x.0 (no_param m f rules x.0 (own_name m f x.0 x.1)) in
+          subst IsIn x.2 (behind, place_within name (registers f) (record { 0 = x.0 }) (is_register m f x.0 x.1))
 
   -- ---- parameters, targets and the entry block
 

@@ -6,6 +6,7 @@ use Rattle.std.proofs.lemmas.List.Elements.{All-contains}
 use Rattle.ir_core.specs.declared.flat.Entry.{Entry}
 use Rattle.ir_core.specs.declared.flat.Phi.{Phi}
 use Rattle.ir_core.specs.declared.flat.FlatBlock.{FlatBlock}
+use Rattle.ir_core.specs.declared.ty.IrType.{IrType}
 use Rattle.ir_core.specs.declared.module.Module.{Module}
 use Rattle.ir_core.specs.declared.op.LocalId.{LocalId}
 use Rattle.ir_core.specs.declared.op.TypedOperand.{TypedOperand}
@@ -44,7 +45,7 @@ record Source (m : Module) (f : Func) (b : ℕ) (entries : List Entry) : Type 0 
   found : slice_get f.blocks b ≡ Some block
   instr : Instr
   stands : Has block.code instr
-  ty : _
+  ty : IrType
   pairs : List Pair
   is_phi : instr.op ≡ ops.Phi ty pairs
   made : entries ≡ map (other_entry (numbers f)) (map (entry m ty) pairs)
@@ -82,7 +83,9 @@ module _ (m : Module) (f : Func) (rules : IsValidFunc m f) (b : ℕ) (entries : 
   here = has_at f.blocks b s.block s.found
 
   does : Has (steps f) (Does s.instr)
-  does = has_part block_steps f.blocks s.block (Does s.instr) here (has_left (map (λ (j : Instr). Does j) s.block.code) (Ends s.block ∷ []) (Does s.instr) (has_mapped (λ (j : Instr). Does j) s.block.code s.instr s.stands))
+  does =
+      let step : Has (map (λ (j : Instr). Does j) s.block.code) (Does s.instr) = has_mapped (λ (j : Instr). Does j) s.block.code s.instr s.stands in
+      has_part block_steps f.blocks s.block (Does s.instr) here (has_left (map (λ (j : Instr). Does j) s.block.code) (Ends s.block ∷ []) (Does s.instr) step)
 
   good_entries : NotFalse (HasGoodEntries m.types.defs f s.block.label s.ty s.pairs)
   good_entries bad = rules.phis s.instr.place (s.block, s.instr, s.ty, s.pairs, contains f.blocks s.block here, contains s.block.code s.instr s.stands, refl, s.is_phi, bad)
@@ -95,7 +98,9 @@ module _ (m : Module) (f : Func) (rules : IsValidFunc m f) (b : ℕ) (entries : 
   fits not = rules.constants s.instr.place (Does s.instr, contains (steps f) (Does s.instr) does, refl, not)
 
   value_of : (p : Pair) → Has s.pairs p → Contains (op_operands s.instr.op) (with_type s.ty p.value)
-  value_of p h = contains (op_operands s.instr.op) (with_type s.ty p.value) (subst (λ (o : Op). Has (op_operands o) (with_type s.ty p.value)) (sym s.is_phi) (has_mapped (λ (q : Pair). with_type s.ty q.value) s.pairs p h))
+  value_of p h =
+      let among = has_mapped (λ (q : Pair). with_type s.ty q.value) s.pairs p h in
+      contains (op_operands s.instr.op) (with_type s.ty p.value) (subst (λ (o : Op). Has (op_operands o) (with_type s.ty p.value)) (sym s.is_phi) among)
 
   means : (p : Pair) → Has s.pairs p → NotFalse (operand m s.ty p.value ≡ of_meaning m (meaning m.types.defs s.ty p.value))
   means p h =

@@ -1,5 +1,5 @@
 -- The operands of a plain body: each register among them is a parameter or written, and each address is that of a global variable.
-use Rattle.std.proofs.Common.{◌≡◌, ◌⊎◌, inl, inr, ℕ, suc, ◌<◌, ◌==◌, Bool, true, false, List, [], ◌∷◌, ◌++◌, map, length, Option, Some, slice_get, All, Contains, refl, sym, ap, subst, arith}
+use Rattle.std.proofs.Common.{◌≡◌, ◌⊎◌, inl, inr, ℕ, suc, ◌<◌, ◌==◌, Bool, true, false, List, [], ◌∷◌, ◌++◌, map, length, Option, Some, slice_get, All, Contains, refl, sym, ap, ◌∙◌, subst, arith}
 use Rattle.std.specs.List.{flat_map, filter_map}
 use Rattle.std.proofs.lemmas.Bool.{cases_eq}
 use Rattle.std.proofs.lemmas.Bool.Decides.{nat_tests}
@@ -61,7 +61,8 @@ each_in_parts P g xs h = each_from P (flat_map g xs) (λ y k. let x = in_part g 
 
 -- ---- what is used comes from an operand of an instruction or a terminator
 
-module _ (m : Module) (f : Func) (P : FlatOp → Type 0) (poison : P Poison) (each : (s : Step) (a : TypedOperand) → Has (steps f) s → Has (operands_of s) a → P (other_operand (numbers f) (typed m a))) where
+module _ (m : Module) (f : Func) (P : FlatOp → Type 0) (poison : P Poison)
+    (each : (s : Step) (a : TypedOperand) → Has (steps f) s → Has (operands_of s) a → P (other_operand (numbers f) (typed m a))) where
   of_step : (s : Step) → Has (steps f) s → (o : FlatOp) → IsOneOf m (operands_of s) o → P (other_operand (numbers f) o)
   of_step s hs o (inl e) = subst (λ (z : FlatOp). P (other_operand (numbers f) z)) (sym e) poison
   of_step s hs o (inr (a, ha, e)) = subst (λ (z : FlatOp). P (other_operand (numbers f) z)) e (each s a hs ha)
@@ -85,22 +86,22 @@ module _ (m : Module) (f : Func) (P : FlatOp → Type 0) (poison : P Poison) (ea
         subst (λ (v : FlatInstr). Each P (used_by v)) w.2
         (subst (Each P) (sym (used_other (numbers f) w.0)) (of_steps (Does i.0) (does i.0 i.1) (used_by w.0) (row_is m i.0.result i.0.op w.0 i.2).1)))
 
-    by_pair : (i : Instr) → Has b.code i → (t : IrType) (ps : List Pair) → i.op ≡ ops.Phi t ps → (p : Pair) → Has ps p → P (other_operand (numbers f) (operand m t p.value))
-    by_pair i hi t ps e p hp =
-        let among : Has (op_operands i.op) (with_type t p.value) = subst (λ (o : Op). Has (op_operands o) (with_type t p.value)) (sym e) (has_mapped (λ (q : Pair). with_type t q.value) ps p hp) in
-        each (Does i) (with_type t p.value) (does i hi) among
+    by_pairs : (i : Instr) → Has b.code i → (t : IrType) (ps : List Pair) → i.op ≡ ops.Phi t ps → Each P (map (λ (e : Entry). e.value) (map (other_entry (numbers f)) (map (entry m t) ps)))
+    by_pairs i hi t ps e =
+        each_made P (λ (x : Entry). x.value) (map (other_entry (numbers f)) (map (entry m t) ps)) (λ x h.
+        let y = map_source (other_entry (numbers f)) (map (entry m t) ps) x h in
+        let p = map_source (entry m t) ps y.0 y.1 in
+        let among : Has (op_operands i.op) (with_type t p.0.value) = subst (λ (o : Op). Has (op_operands o) (with_type t p.0.value)) (sym e) (has_mapped (λ (q : Pair). with_type t q.value) ps p.0 p.1) in
+        let made : other_entry (numbers f) (entry m t p.0) ≡ x = ap (other_entry (numbers f)) p.2 ∙ y.2 in
+        subst (λ (z : Entry). P z.value) made (each (Does i) (with_type t p.0.value) (does i hi) among))
 
     by_phis : Each P (flat_map (λ (q : Phi). map (λ (e : Entry). e.value) q.entries) (row m f b).phis)
     by_phis = each_in_parts P (λ (q : Phi). map (λ (e : Entry). e.value) q.entries) (row m f b).phis (λ z h.
         let q = map_source (other_phi (numbers f)) (block_rows m b).phis z h in
         let i = has_source (phi_row m) b.code q.0 q.1 in
         let s = phi_is m i.0.result i.0.op q.0 i.2 in
-        subst (λ (y : Phi). Each P (map (λ (e : Entry). e.value) y.entries)) q.2
-        (subst (λ (es : List Entry). Each P (map (λ (e : Entry). e.value) (map (other_entry (numbers f)) es))) (sym s.entries)
-        (each_made P (λ (e : Entry). e.value) (map (other_entry (numbers f)) (map (entry m s.ty) s.pairs)) (λ e k.
-        let x = map_source (other_entry (numbers f)) (map (entry m s.ty) s.pairs) e k in
-        let p = map_source (entry m s.ty) s.pairs x.0 x.1 in
-        subst (λ (y : Entry). P y.value) x.2 (subst (λ (y : Entry). P (other_operand (numbers f) y.value)) p.2 (by_pair i.0 i.1 s.ty s.pairs s.is_phi p.0 p.1))))))
+        let made : map (other_entry (numbers f)) (map (entry m s.ty) s.pairs) ≡ z.entries = ap (map (other_entry (numbers f))) (sym s.entries) ∙ ap (λ (y : Phi). y.entries) q.2 in
+        subst (λ (es : List Entry). Each P (map (λ (e : Entry). e.value) es)) made (by_pairs i.0 i.1 s.ty s.pairs s.is_phi))
 
     abbrev phi_values : List FlatOp
     phi_values = flat_map (λ (q : Phi). map (λ (e : Entry). e.value) q.entries) (row m f b).phis
@@ -112,7 +113,9 @@ module _ (m : Module) (f : Func) (P : FlatOp → Type 0) (poison : P Poison) (ea
     by_block = each_joined P (phi_values ++ code_values) (used_at_end (row m f b).end) (each_joined P phi_values code_values by_phis by_code) by_end
 
   all_used : All P (all_uses (plain_body m f))
-  all_used = subst (All P) (sym (flat_map-map uses (row m f) f.blocks)) (All-from_recursion P (flat_map (λ (b : Block). uses (row m f b)) f.blocks) (each_in_parts P (λ (b : Block). uses (row m f b)) f.blocks by_block))
+  all_used =
+      let blocks : Each P (flat_map (λ (b : Block). uses (row m f b)) f.blocks) = each_in_parts P (λ (b : Block). uses (row m f b)) f.blocks by_block in
+      subst (All P) (sym (flat_map-map uses (row m f) f.blocks)) (All-from_recursion P (flat_map (λ (b : Block). uses (row m f b)) f.blocks) blocks)
 
 -- ---- registers
 
@@ -164,7 +167,8 @@ module _ (m : Module) (proper : IsProper m) (valid : IsValid m) (g : ℕ) (f : F
       by_row : HasRow m x i.result i.op → Contains (all_writes (plain_body m f)) ((numbers f).reg x.0)
       by_row h =
           let all : Has (all_named m f) x.0 = has_part (λ (b : Block). written_names m b.code) f.blocks block.0 x.0 block.1 (named h) in
-          subst (λ (ys : List ℕ). Contains ys ((numbers f).reg x.0)) (sym (writes_all m f)) (contains (map (numbers f).reg (all_named m f)) ((numbers f).reg x.0) (has_mapped (numbers f).reg (all_named m f) x.0 all))
+          let there = contains (map (numbers f).reg (all_named m f)) ((numbers f).reg x.0) (has_mapped (numbers f).reg (all_named m f) x.0 all) in
+          subst (λ (ys : List ℕ). Contains ys ((numbers f).reg x.0)) (sym (writes_all m f)) there
 
   -- each register that is used is a parameter or written
   pub used : All (IsParamOrWritten (plain_body m f)) (all_uses (plain_body m f))

@@ -39,7 +39,8 @@ apart_joined [] ys a b across = b
 apart_joined (x ∷ xs) ys a b across = (each_joined (λ y. x ≢ y) xs ys a.0 (across x (inl refl)), apart_joined xs ys a.1 b (λ z h. across z (inr h)))
 
 -- parts with fewer numbers
-pub apart_parts : {A : Type 0} (f g : A → List ℕ) → ((x : A) → Apart (g x) → Apart (f x)) → ((x : A) (y : ℕ) → Has (f x) y → Has (g x) y) → (xs : List A) → Apart (flat_map g xs) → Apart (flat_map f xs)
+pub apart_parts : {A : Type 0} (f g : A → List ℕ) → ((x : A) → Apart (g x) → Apart (f x)) → ((x : A) (y : ℕ) → Has (f x) y → Has (g x) y) → (xs : List A) → Apart (flat_map g xs)
+    → Apart (flat_map f xs)
 apart_parts f g once fewer [] a = tt
 apart_parts f g once fewer (x ∷ xs) a =
     apart_joined (f x) (flat_map f xs) (once x (apart_left (g x) (flat_map g xs) a)) (apart_parts f g once fewer xs (apart_right (g x) (flat_map g xs) a))
@@ -114,5 +115,6 @@ module _ (m : Module) (f : Func) (rules : IsValidFunc m f) where
   -- no parameter has the name of a label or a result
   pub no_param : (x : ℕ) → Has (flat_map own_names f.blocks) x → Each (λ (p : ℕ). p ≢ x) (param_names f)
   no_param x h = each_from (λ (p : ℕ). p ≢ x) (param_names f) (λ p k.
-      let all : Each (λ (y : ℕ). p ≢ y) (flat_map own_names f.blocks) = each_of (λ (v : ℕ). Each (λ (y : ℕ). v ≢ y) (flat_map own_names f.blocks)) (param_names f) p (apart_across (param_names f) (flat_map own_names f.blocks) names_once) k in
-      each_of (λ (y : ℕ). p ≢ y) (flat_map own_names f.blocks) x all h)
+      let across = apart_across (param_names f) (flat_map own_names f.blocks) names_once in
+      let away : Each (λ (y : ℕ). p ≢ y) (flat_map own_names f.blocks) = each_of (λ (v : ℕ). Each (λ (y : ℕ). v ≢ y) (flat_map own_names f.blocks)) (param_names f) p across k in
+      each_of (λ (y : ℕ). p ≢ y) (flat_map own_names f.blocks) x away h)

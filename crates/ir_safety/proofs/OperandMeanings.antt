@@ -16,6 +16,7 @@ use Rattle.ir_core.specs.declared.ty.IrType.TheVariants.{outs-Void, outs-Int, ou
 use Rattle.ir_core.specs.declared.constant.Const.{Const}
 use Rattle.ir_core.specs.declared.constant.Const as consts
 use Rattle.ir_core.specs.declared.constant.TypedCount.{TypedCount}
+use Rattle.ir_core.specs.declared.module.SymId.{SymId}
 use Rattle.ir_core.specs.declared.module.Module.{Module}
 use Rattle.ir_core.specs.declared.op.Operand.{Operand}
 use Rattle.ir_core.specs.declared.op.Operand.TheVariants as operands
@@ -100,19 +101,24 @@ module _ (defs : List TypeDef) where
       let count : i.count ≡ pos k = let both : Some i.count ≡ Some (pos k) = number in cc in
       let field : word_of (modulus (width_of i.ty)) i.count ≡ k = field_word i.ty i.count k word count fits in
       record {
-        leads = ap (λ (o : Option IrType). inside defs t o (constant_index i)) none ∙ ap (λ (n : ℕ). unwrap_or (slice_get (fields defs t) n) Void) field ∙ ap (λ (o : Option IrType). unwrap_or o Void) at;
-        far = ap (λ (o : Option IrType). bytes (into defs t o (constant_index i)) + on u) none ∙ ap (λ (n : ℕ). unwrap_or (offset defs t n) 0 + on u) field ∙ by_level (out-IrType (plain defs t)) at count;
+        leads =
+            ap (λ (o : Option IrType). inside defs t o (constant_index i)) none ∙ ap (λ (n : ℕ). unwrap_or (slice_get (fields defs t) n) Void) field ∙ ap (λ (o : Option IrType). unwrap_or o Void) at;
+        far =
+            ap (λ (o : Option IrType). bytes (into defs t o (constant_index i)) + on u) none ∙ ap (λ (n : ℕ). unwrap_or (offset defs t n) 0 + on u) field ∙ by_level (out-IrType (plain defs t)) at count;
       }
     where
       by_level : (l : IrType-F IrType) → slice_get (types_in l) k ≡ Some u → i.count ≡ pos k → unwrap_or (offset defs t k) 0 + on u ≡ distance_by defs t i on l
-      by_level (IrType-F.Struct types) at count = ap (λ (o : Option IrType). unwrap_or (offset defs t k) 0 + on (unwrap_or o Void)) (sym at) ∙ ap (λ (n : ℤ). unwrap_or (offset defs t (field_of_count n)) 0 + on (unwrap_or (slice_get types (field_of_count n)) Void)) (sym count)
+      by_level (IrType-F.Struct types) at count =
+          ap (λ (o : Option IrType). unwrap_or (offset defs t k) 0 + on (unwrap_or o Void)) (sym at)
+          ∙ ap (λ (n : ℤ). unwrap_or (offset defs t (field_of_count n)) 0 + on (unwrap_or (slice_get types (field_of_count n)) Void)) (sym count)
       by_level IrType-F.Void at count = cc
       by_level (IrType-F.Int w) at count = cc
       by_level IrType-F.Ptr at count = cc
       by_level (IrType-F.Array n item) at count = cc
       by_level (IrType-F.Named x) at count = cc
 
-  walk_bytes : (is : List TypedCount) (t : IrType) → Walk defs t (map const_index is) → Each (λ (i : TypedCount). FitsType i.ty i.count) is → bytes (walk defs t (map constant_index is)) ≡ distance_into defs t is
+  walk_bytes : (is : List TypedCount) (t : IrType) → Walk defs t (map const_index is) → Each (λ (i : TypedCount). FitsType i.ty i.count) is
+      → bytes (walk defs t (map constant_index is)) ≡ distance_into defs t is
   walk_bytes [] t w fit = refl
   walk_bytes (i ∷ is) t (int, (u, goes, rest)) fit =
       let one = one_on t i u (λ (v : IrType). distance_into defs v is) int fit.0 goes in
@@ -141,7 +147,8 @@ of_meaning m IsPoison = Poison
 of_meaning m HasNone = Poison
 
 module _ (m : Module) where
-  address : (t source : IrType) (s : _) (is : List TypedCount) → ConstAgrees m.types.defs (consts.Gep source s is) t → IndicesFit is → Address (global_number m s) (path_bytes (path m.types.defs source (map constant_index is))) ≡ Address (global_number m s) (gep_offset m.types.defs source is)
+  address : (t source : IrType) (s : SymId) (is : List TypedCount) → ConstAgrees m.types.defs (consts.Gep source s is) t → IndicesFit is
+      → Address (global_number m s) (path_bytes (path m.types.defs source (map constant_index is))) ≡ Address (global_number m s) (gep_offset m.types.defs source is)
   address t source s is agrees fits = ap (Address (global_number m s)) (offset_of_path m.types.defs is source agrees.1 fits)
 
   constant_means : (t : IrType) (c : Const) → IsScalar t → ConstAgrees m.types.defs c t → ConstFits c t → constant m t c ≡ of_meaning m (meaning m.types.defs t (operands.Const c))
