@@ -24,3 +24,4 @@ pub mod FormedPhis
 pub mod TypeSizes
 pub mod FormedSizes
 pub mod FormedBodies
+pub mod FewNumbers

@@ -1,13 +1,15 @@
-ghost use Rattle.std.specs.Prelude.{◌≢◌, ◌<◌, ℕ, List, All};
+ghost use Rattle.std.specs.Prelude.{◌≢◌, ◌<◌, ◌≤◌, ◌+◌, ℕ, List, length, All};
 ghost use Rattle.oi_base.specs.Follows.{Stuck};
 ghost use Rattle.ir_core.specs.declared.flat.Scalar.{Scalar};
+ghost use Rattle.ir_core.specs.declared.func.Func as funcs;
 ghost use Rattle.ir_core.specs.declared.module.Module as modules;
 ghost use Rattle.ir_core.specs.Flat.{Program, flat_run};
 ghost use Rattle.ir_core.specs.Formed.{FuncType, IsFormed};
-ghost use Rattle.ir_core.specs.Plain.{plain_program};
-ghost use Rattle.ir_core.specs.Proper.{IsProper};
+ghost use Rattle.ir_core.specs.Plain.{registers, plain_body, plain_program};
+ghost use Rattle.ir_core.specs.Proper.{IsProper, IsProperFunc};
 ghost use Rattle.ir_core.specs.Source.{src};
 ghost use Rattle.ir_core.specs.Valid.{IsValid};
+ghost use Rattle.ir_core.specs.Weight.{weight};
 ghost use Rattle.ir_safety.specs.PlainTypes.{plain_types, plain_funcs, HasFewNumbers};
 
 /// No run of a proper and valid module is stuck, on any input of bytes: each operand has a value when it is used, and that
@@ -26,4 +28,11 @@ pub fn a_formed_run_is_never_stuck()
 /// functions have fewer than 2^32 registers and blocks. It does nothing: its contract is the law.
 pub fn plain_bodies_are_formed()
     ensures { (m : modules.Module) → IsProper m → IsValid m → HasFewNumbers m → IsFormed (plain_program m) (plain_types m) (plain_funcs m) }
+{}
+
+/// Of a function of a proper module: its registers but the parameters, of which there are 8 at most, and its blocks are no
+/// more than its plain body weighs. It does nothing: its contract is the law.
+pub fn weight_bounds_registers_and_blocks()
+    ensures registers { (m : modules.Module) (f : funcs.Func) → IsProperFunc f → length (registers f) ≤ 8 + weight (plain_body m f) }
+    ensures blocks { (m : modules.Module) (f : funcs.Func) → IsProperFunc f → length f.blocks ≤ weight (plain_body m f) }
 {}

@@ -4,4 +4,7 @@
 
 mod laws;
 
-pub use laws::{a_formed_run_is_never_stuck, a_valid_run_is_never_stuck, plain_bodies_are_formed};
+pub use laws::{
+    a_formed_run_is_never_stuck, a_valid_run_is_never_stuck, plain_bodies_are_formed,
+    weight_bounds_registers_and_blocks,
+};
