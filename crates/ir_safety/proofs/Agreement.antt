@@ -1,7 +1,7 @@
 -- The instructions, phis and ends of a valid module's plain bodies have operands of the types that they need.
 use Rattle.std.proofs.Common.{◌≡◌, inl, inr, ℕ, suc, Bool, true, false, if◌then◌else◌, List, [], ◌∷◌, ◌++◌, map, Option, Some, None, slice_get, All, Contains, refl, sym, ap, ◌∙◌, subst, arith}
 use Rattle.std.specs.Option.{option_map}
-use Rattle.std.proofs.lemmas.List.Elements.{All-nil, All-cons, All-head, All-tail, All-map, All-contains}
+use Rattle.std.proofs.lemmas.List.Elements.{All-from_recursion, recursion_from_All, All-map, All-contains}
 use Rattle.std.proofs.lemmas.Option.{slice_get-map}
 use Rattle.oi_base.specs.declared.ids.Place.{Place}
 use Rattle.oi_base.specs.declared.words.Width.TheVariants.{W1, W32}
@@ -43,26 +43,17 @@ use Rattle.ir_core.specs.ValidModule.{Introduced, introduced, introduced_globals
 use Rattle.ir_core.specs.ValidOps.{IsScalar, op_result, LocalHasType, OperandAgrees, OpAgrees, EndAgrees, DoesAgree, StepAgrees, OperandFits, CountFits, IsDefinedAs, IsExternal, CallsWell}
 use Rattle.ir_core.proofs.Lists.{Has, Each, has_left, has_right, has_part, has_at, at_has, contains, has_source, all_at, has_in, has_mapped, map_source, mapped}
 use Rattle.ir_safety.proofs.Safe.{NotFalse, true_too, and_so, in_turn, IsTypedInstr, IsTypedEnd}
+use Rattle.ir_safety.proofs.Elements.{each_joined}
+use Rattle.ir_safety.proofs.PlainEdges.{block_of}
+use Rattle.ir_safety.proofs.PlainSources.{is_instr, does, ends, step_agrees, step_fits, code_source, phi_source}
 use Rattle.ir_safety.specs.PlainTypes.{func_types, result_scalar, func_type, plain_funcs}
 use Rattle.ir_safety.proofs.Named.{Two, introduced_once, HasFunc, named_func, named_any}
 
 -- ---- lists
 
-each_of_all : {A : Type 0} (P : A → Type 0) (xs : List A) → All P xs → Each P xs
-each_of_all P [] h = tt
-each_of_all P (x ∷ xs) h = (All-head P x xs h, each_of_all P xs (All-tail P x xs h))
-
-all_of_each : {A : Type 0} (P : A → Type 0) (xs : List A) → Each P xs → All P xs
-all_of_each P [] h = All-nil P
-all_of_each P (x ∷ xs) h = All-cons P x xs h.0 (all_of_each P xs h.1)
-
 each_both : {A : Type 0} (P Q R : A → Type 0) (xs : List A) → ((x : A) → P x → Q x → R x) → Each P xs → Each Q xs → Each R xs
 each_both P Q R [] f p q = tt
 each_both P Q R (x ∷ xs) f p q = (f x p.0 q.0, each_both P Q R xs f p.1 q.1)
-
-each_joined : {A : Type 0} (P : A → Type 0) (xs ys : List A) → Each P xs → Each P ys → Each P (xs ++ ys)
-each_joined P [] ys p q = q
-each_joined P (x ∷ xs) ys p q = (p.0, each_joined P xs ys p.1 q)
 
 two_parts : {A : Type 0} (xs ys : List A) (a b : A) → Has xs a → Has ys b → Two (xs ++ ys) a b
 two_parts [] ys a b h k = absurd h
@@ -192,7 +183,7 @@ module _ (m : Module) (f : Func) where
   terms_typed is t w h =
       let all : Each IsIndex is = each_both (λ (a : TypedOperand). IsInteger a.ty) IsOperand IsIndex is (λ a i o. of_word a i o) (all_integers m.types.defs is t w) h in
       let terms : List Term = (path m.types.defs t (map (index m) is)).terms in
-      All-map (λ (t : Term). HasType types t.operand (scalar.Word t.width)) (other_term n) terms (all_of_each IsTerm terms (path_typed is t all))
+      All-map (λ (t : Term). HasType types t.operand (scalar.Word t.width)) (other_term n) terms (All-from_recursion IsTerm terms (path_typed is t all))
 
   -- ---- all instructions but calls
 
@@ -310,7 +301,7 @@ module _ (m : Module) (f : Func) where
   phi_typed (Some d) (ops.Store a p stated) e h = tt
   phi_typed (Some d) (ops.Call t s as') e h = tt
   phi_typed (Some d) (ops.Phi t es) e h =
-      all_of_each (λ (e : Entry). HasType types e.value (types (n.reg d.0))) (map (other_entry n) (map (entry m t) es)) (entries_typed t (types (n.reg d.0)) (sym (e d refl)) es h)
+      All-from_recursion (λ (e : Entry). HasType types e.value (types (n.reg d.0))) (map (other_entry n) (map (entry m t) es)) (entries_typed t (types (n.reg d.0)) (sym (e d refl)) es h)
   phi_typed None op e h = tt
 
   -- ---- ends
@@ -338,11 +329,10 @@ module _ (m : Module) (g : ℕ) (f : Func) (proper : IsProper m) (valid : IsVali
 
   step_typed : (s : Step) → Has (steps f) s → NotFalse (Each (IsOperand m f) (operands_of s) × DoesAgree m.types.defs f s)
   step_typed s h =
-      let there : Contains (steps f) s = contains (steps f) s h in
-      and_so (λ (no : StepAgrees m.types.defs f s → ⊥). rules.types (place_of s) (inr (s, there, refl, no))) (λ (agrees : StepAgrees m.types.defs f s).
-      in_turn (λ (no : All OperandFits (operands_of s) × CountFits s → ⊥). rules.constants (place_of s) (s, there, refl, no)) (λ (fits : All OperandFits (operands_of s) × CountFits s). (
+      and_so (step_agrees m f rules s h) (λ (agrees : StepAgrees m.types.defs f s).
+      in_turn (step_fits m f rules s h) (λ (fits : All OperandFits (operands_of s) × CountFits s). (
         each_both (OperandAgrees m.types.defs f) OperandFits (IsOperand m f) (operands_of s) (λ (a : TypedOperand) (x : OperandAgrees m.types.defs f a) (y : OperandFits a). (x.0, operand_typed a x y))
-            (each_of_all (OperandAgrees m.types.defs f) (operands_of s) agrees.0) (each_of_all OperandFits (operands_of s) fits.0),
+            (recursion_from_All (OperandAgrees m.types.defs f) (operands_of s) agrees.0) (recursion_from_All OperandFits (operands_of s) fits.0),
         agrees.1,
       )))
 
@@ -354,61 +344,44 @@ module _ (m : Module) (g : ℕ) (f : Func) (proper : IsProper m) (valid : IsVali
 
   module _ (b : Block) (here : Has f.blocks b) where
     module _ (i : Instr) (inside : Has b.code i) where
-      is_step : Has (steps f) (Does i)
-      is_step = has_part block_steps f.blocks b (Does i) here (has_left (map Does b.code) (Ends b ∷ []) (Does i) (has_mapped Does b.code i inside))
-
-      is_instr : Contains (instrs f) i
-      is_instr = contains (instrs f) i (has_part (λ (c : Block). c.code) f.blocks b i here inside)
+      stands : Contains (instrs f) i
+      stands = is_instr f b here i inside
 
       result_has : ResultHas m f i.result (op_result i.op)
-      result_has d e = local_type d (op_result i.op) (inr (i, is_instr, e, refl))
+      result_has d e = local_type d (op_result i.op) (inr (i, stands, e, refl))
 
       instr_typed : NotFalse (IsGood m f (instruction m i.result i.op))
       instr_typed =
-          and_so (step_typed (Does i) is_step) (λ (s : Each (IsOperand m f) (op_operands i.op) × OpAgrees m.types.defs i.op).
-          and_so (λ (no : CallsWell m i.op → ⊥). rules.calls i.place (i, is_instr, refl, no)) (λ (well : CallsWell m i.op).
-          in_turn (good_call m f valid callee_type i.place i.result i.op (All-contains HasItsResult (instrs f) i proper_func.results is_instr) result_has s.0 well) (λ (c : IsGoodCall m f i.result i.op).
+          and_so (step_typed (Does i) (does f b here i inside)) (λ (s : Each (IsOperand m f) (op_operands i.op) × OpAgrees m.types.defs i.op).
+          and_so (λ (no : CallsWell m i.op → ⊥). rules.calls i.place (i, stands, refl, no)) (λ (well : CallsWell m i.op).
+          in_turn (good_call m f valid callee_type i.place i.result i.op (All-contains HasItsResult (instrs f) i proper_func.results stands) result_has s.0 well) (λ (c : IsGoodCall m f i.result i.op).
           op_typed m f i.result i.op result_has s.0 s.1 c)))
 
       row_typed : (row it : FlatInstr) → instruction m i.result i.op ≡ Some row → other_instr (numbers f) row ≡ it → NotFalse (IsTypedInstr (func_types f) (plain_funcs m) it)
       row_typed row it made same = in_turn instr_typed (λ (good : IsGood m f (instruction m i.result i.op)). subst (IsTypedInstr (func_types f) (plain_funcs m)) same (subst (IsGood m f) made good))
 
       phi_entries : NotFalse (IsGoodPhi m f (phi m i.result i.op))
-      phi_entries = in_turn (step_typed (Does i) is_step) (λ (s : Each (IsOperand m f) (op_operands i.op) × OpAgrees m.types.defs i.op). phi_typed m f i.result i.op result_has s.0)
+      phi_entries = in_turn (step_typed (Does i) (does f b here i inside)) (λ (s : Each (IsOperand m f) (op_operands i.op) × OpAgrees m.types.defs i.op). phi_typed m f i.result i.op result_has s.0)
 
       phi_row : (row q : flat_phi.Phi) → phi m i.result i.op ≡ Some row → other_phi (numbers f) row ≡ q → NotFalse (AreEntries q)
       phi_row row q made same = in_turn phi_entries (λ (good : IsGoodPhi m f (phi m i.result i.op)). subst AreEntries same (subst (IsGoodPhi m f) made good))
 
     block_end : NotFalse (IsTypedEnd (func_types f) (func_type f).result (other_end (numbers f) (terminator m b.end)))
-    block_end =
-        let stands : Has (steps f) (Ends b) = has_part block_steps f.blocks b (Ends b) here (has_right (map Does b.code) (Ends b ∷ []) (Ends b) (inl refl)) in
-        in_turn (step_typed (Ends b) stands) (λ (s : Each (IsOperand m f) (end_operands b.end) × EndAgrees f b.end). end_typed m f b.end s.0 s.1)
+    block_end = in_turn (step_typed (Ends b) (ends f b here)) (λ (s : Each (IsOperand m f) (end_operands b.end) × EndAgrees f b.end). end_typed m f b.end s.0 s.1)
 
   -- ---- the plain body
 
-  block_of : (x : ℕ) (k : FlatBlock) → IsBlock (plain_body m f) x k → (b : Block) × Has f.blocks b × (renumbered (numbers f) (block_rows m b) ≡ k)
-  block_of x k at =
-      let e : option_map (λ (b : Block). renumbered (numbers f) (block_rows m b)) (slice_get f.blocks x) ≡ Some k = sym (slice_get-map (λ (b : Block). renumbered (numbers f) (block_rows m b)) f.blocks x) ∙ at in
-      let r = mapped (λ (b : Block). renumbered (numbers f) (block_rows m b)) (slice_get f.blocks x) k e in
-      (r.0, has_at f.blocks x r.0 r.1, r.2)
-
   pub code_typed : (x p : ℕ) (k : FlatBlock) (i : FlatInstr) → IsBlock (plain_body m f) x k → slice_get k.code p ≡ Some i → NotFalse (IsTypedInstr (func_types f) (plain_funcs m) i)
   code_typed x p k i at e =
-      let b = block_of x k at in
-      let rows : List FlatInstr = (block_rows m b.0).code in
-      let h : Has (map (other_instr (numbers f)) rows) i = has_at (map (other_instr (numbers f)) rows) p i (ap (λ (l : FlatBlock). slice_get l.code p) b.2 ∙ e) in
-      let row = map_source (other_instr (numbers f)) rows i h in
-      let j = has_source (λ (j : Instr). instruction m j.result j.op) b.0.code row.0 row.1 in
-      row_typed b.0 b.1 j.0 j.1 row.0 i j.2 row.2
+      let b = block_of m f x k at in
+      let s = code_source m f b.0 i (subst (λ (l : FlatBlock). Has l.code i) (sym b.2) (has_at k.code p i e)) in
+      row_typed b.0 (has_at f.blocks x b.0 b.1) s.0 s.2 s.1 i s.3 s.4
 
   pub phi_types : (x : ℕ) (k : FlatBlock) (q : flat_phi.Phi) → IsBlock (plain_body m f) x k → Contains k.phis q → NotFalse (All (λ (e : Entry). HasType (func_types f) e.value (func_types f q.reg.0)) q.entries)
   phi_types x k q at e =
-      let b = block_of x k at in
-      let rows : List flat_phi.Phi = (block_rows m b.0).phis in
-      let h : Has (map (other_phi (numbers f)) rows) q = has_in (map (other_phi (numbers f)) rows) q (subst (λ (l : FlatBlock). Contains l.phis q) (sym b.2) e) in
-      let row = map_source (other_phi (numbers f)) rows q h in
-      let j = has_source (λ (j : Instr). phi m j.result j.op) b.0.code row.0 row.1 in
-      phi_row b.0 b.1 j.0 j.1 row.0 q j.2 row.2
+      let b = block_of m f x k at in
+      let s = phi_source m f b.0 q (subst (λ (l : FlatBlock). Has l.phis q) (sym b.2) (has_in k.phis q e)) in
+      phi_row b.0 (has_at f.blocks x b.0 b.1) s.0 s.2 s.1 q s.3 s.4
 
   pub ends_typed : (x : ℕ) (k : FlatBlock) → IsBlock (plain_body m f) x k → NotFalse (IsTypedEnd (func_types f) (func_type f).result k.end)
-  ends_typed x k at = let b = block_of x k at in subst (λ (l : FlatBlock). NotFalse (IsTypedEnd (func_types f) (func_type f).result l.end)) b.2 (block_end b.0 b.1)
+  ends_typed x k at = let b = block_of m f x k at in subst (λ (l : FlatBlock). NotFalse (IsTypedEnd (func_types f) (func_type f).result l.end)) b.2 (block_end b.0 (has_at f.blocks x b.0 b.1))

@@ -41,22 +41,22 @@ use Rattle.ir_core.specs.ValidFunc.{IsParam}
 use Rattle.ir_core.specs.ValidPaths.{IsBlockOf, IsSuccessor, IsPathOf, Writes, IsAssigned, IsUse}
 use Rattle.ir_core.proofs.Lists.{Has, has_at, at_has, has_part, has_source, contains, place_has, all_at, has_in, has_mapped, map_source, has_made, mapped}
 use Rattle.ir_core.proofs.SoundRules.{same_name}
-use Rattle.ir_safety.proofs.Safe.{NotFalse, true_too, and_so, in_turn}
-use Rattle.ir_safety.proofs.Standing.{one_at}
-use Rattle.ir_safety.proofs.RowUses.{AreOf, is_local_name, RowOf, row_of, end_of, no_phi, written_other, used_other, end_used_other, HasRow, has_row}
+use Rattle.ir_safety.proofs.Safe.{NotFalse, true_too, and_so, in_turn, each_too}
+use Rattle.ir_safety.proofs.Elements.{one_at, left_at}
+use Rattle.ir_safety.proofs.Registers.{param_first}
+use Rattle.ir_safety.proofs.PlainEdges.{row, IsFrom, GoesFrom, block_of, block_there, edge_of, labelled}
+use Rattle.ir_safety.proofs.PlainRows.{instr_row, phi_row}
+use Rattle.ir_safety.proofs.PlainSources.{is_instr, Source, source_of, pair_of}
+use Rattle.ir_safety.proofs.RowUses.{AreOf, is_local_name, row_of, end_of, no_phi, written_other, used_other, end_used_other, HasRow, result_row}
 
 -- ---- lists
-
-all_had : {A : Type 0} (P : A → Type 0) (xs : List A) → ((x : A) → Has xs x → NotFalse (P x)) → NotFalse (All P xs)
-all_had P [] h = true_too (All-nil P)
-all_had P (x ∷ xs) h = and_so (h x (inl refl)) (λ p. in_turn (all_had P xs (λ y g. h y (inr g))) (λ ps. All-cons P x xs p ps))
 
 -- what the elements before a place are made into stands before place n of what is made
 abbrev Earlier : {A B : Type 0} → (A → Option B) → List A → List B → ℕ → ℕ → Type 0
 Earlier {A} {B} f xs made place n = (j : ℕ) (z : A) (w : B) → j < place → slice_get xs j ≡ Some z → f z ≡ Some w → (q : ℕ) × (q < n) × (slice_get made q ≡ Some w)
 
 -- the element of which filter_map made what stands at place n
-record Source {A B : Type 0} (f : A → Option B) (xs : List A) (made : List B) (n : ℕ) (y : B) : Type 0 where
+record Origin {A B : Type 0} (f : A → Option B) (xs : List A) (made : List B) (n : ℕ) (y : B) : Type 0 where
   place : ℕ
   element : A
   found : slice_get xs place ≡ Some element
@@ -72,11 +72,11 @@ module _ {A B : Type 0} (f : A → Option B) where
   earlier_behind x v xs place n e h zero z w lt found makes = let same : x ≡ z = cc in (0, omega arith, cc)
   earlier_behind x v xs place n e h (suc j) z w lt found makes = let r = h j z w (omega (arith, lt)) found makes in let less = r.1 in (suc r.0, omega (arith, less), r.2)
 
-  source_at : (xs : List A) (n : ℕ) (y : B) → slice_get (filter_map f xs) n ≡ Some y → Source f xs (filter_map f xs) n y
+  source_at : (xs : List A) (n : ℕ) (y : B) → slice_get (filter_map f xs) n ≡ Some y → Origin f xs (filter_map f xs) n y
   source_at [] n y e = absurd cc
   source_at (x ∷ xs) n y e = by_first (f x) n refl e (λ k g. source_at xs k y g)
     where
-      by_first : (o : Option B) (n : ℕ) → f x ≡ o → slice_get (cons_option o (filter_map f xs)) n ≡ Some y → ((k : ℕ) → slice_get (filter_map f xs) k ≡ Some y → Source f xs (filter_map f xs) k y) → Source f (x ∷ xs) (cons_option o (filter_map f xs)) n y
+      by_first : (o : Option B) (n : ℕ) → f x ≡ o → slice_get (cons_option o (filter_map f xs)) n ≡ Some y → ((k : ℕ) → slice_get (filter_map f xs) k ≡ Some y → Origin f xs (filter_map f xs) k y) → Origin f (x ∷ xs) (cons_option o (filter_map f xs)) n y
       by_first None n o g rest = let r = rest n g in record { place = suc r.place; element = r.element; found = r.found; makes = r.makes; earlier = earlier_past x xs r.place n o r.earlier }
       by_first (Some v) zero o g rest = record { place = 0; element = x; found = refl; makes = o ∙ g; earlier = λ j z w lt found makes. absurd (omega (arith, lt)) }
       by_first (Some v) (suc n) o g rest = let r = rest n g in record { place = suc r.place; element = r.element; found = r.found; makes = r.makes; earlier = earlier_behind x v xs r.place n o r.earlier }
@@ -86,14 +86,6 @@ module _ {A B : Type 0} (f : A → Option B) where
   all_earlier h xs j z w lt found makes =
       let r = at_has (filter_map f xs) w (has_made f xs z w (has_at xs j z found) makes) in
       (r.0, subst (λ (n : ℕ). r.0 < n) (sym (length-map (filter_map f xs) h)) (slice_get_within (filter_map f xs) r.0 w r.1), r.1)
-
--- ---- rows
-
-abbrev row : Module → Instr → Option FlatInstr
-row m i = instruction m i.result i.op
-
-abbrev phi_row : Module → Instr → Option Phi
-phi_row m i = phi m i.result i.op
 
 -- ---- paths
 
@@ -135,96 +127,22 @@ step_more g [] a b s h = (h, tt)
 step_more g (x ∷ []) a b s h = (s.0, (h, tt))
 step_more g (x ∷ y ∷ ys) a b s h = (s.0, step_more g (y ∷ ys) a b s.1 h)
 
-begins : (xs ys : List ℕ) (x : ℕ) → slice_get xs 0 ≡ Some x → slice_get (xs ++ ys) 0 ≡ Some x
-begins [] ys x e = absurd cc
-begins (z ∷ zs) ys x e = e
-
--- a label with the number of a block is its own
-labelled : (g : Func) (b : ℕ) (c : Block) (t : LocalId) → IsBlockOf g b c → (numbers g).block t.0 ≡ b → t ≡ c.label
-labelled g b c t at e = same_name t c.label (sym (place_has (λ (d : Block). d.label.0) g.blocks t.0 c (subst (λ (n : ℕ). slice_get g.blocks n ≡ Some c) (sym e) at)))
-
 module _ (m : Module) (g : Func) where
-  abbrev rows : Block → FlatBlock
-  rows b = renumbered (numbers g) (block_rows m b)
-
-  block_source : (b : ℕ) (k : FlatBlock) → IsBlock (plain_body m g) b k → (c : Block) × IsBlockOf g b c × (rows c ≡ k)
-  block_source b k e = mapped rows (slice_get g.blocks b) k (sym (slice_get-map rows g.blocks b) ∙ e)
-
-  block_there : (b : ℕ) (c : Block) → IsBlockOf g b c → IsBlock (plain_body m g) b (rows c)
-  block_there b c e = slice_get-map rows g.blocks b ∙ ap (option_map rows) e
-
-  -- a target of a row's end is the number of a target of the terminator
-  case_leads : (other : LocalId) (cs : List SwitchCase) (b : ℕ) → Has (map (λ (c : Case). c.to.0) (map (other_case (numbers g)) (map (switch_case m) cs)) ++ (numbers g).block other.0 ∷ []) b
-      → (t : LocalId) × Has (other ∷ map (λ (c : SwitchCase). c.to) cs) t × ((numbers g).block t.0 ≡ b)
-  case_leads other [] b (inl e) = (other, inl refl, e)
-  case_leads other [] b (inr h) = absurd h
-  case_leads other (c ∷ cs) b (inl e) = (c.to, inr (inl refl), e)
-  case_leads other (c ∷ cs) b (inr h) = let r = case_leads other cs b h in (r.0, past r.0 r.1, r.2)
-    where
-      past : (t : LocalId) → Has (other ∷ map (λ (c : SwitchCase). c.to) cs) t → Has (other ∷ map (λ (c : SwitchCase). c.to) (c ∷ cs)) t
-      past t (inl e) = inl e
-      past t (inr g) = inr (inr g)
-
-  leads : (e : End) (b : ℕ) → Has (formed.targets (other_end (numbers g) (terminator m e))) b → (t : LocalId) × Has (targets e) t × ((numbers g).block t.0 ≡ b)
-  leads (ends.Ret a) b h = absurd h
-  leads (ends.Br t) b (inl e) = (t, inl refl, e)
-  leads (ends.Br t) b (inr h) = absurd h
-  leads (ends.Cond c x y) b (inl e) = (x, inl refl, e)
-  leads (ends.Cond c x y) b (inr (inl e)) = (y, inr (inl refl), e)
-  leads (ends.Cond c x y) b (inr (inr h)) = absurd h
-  leads (ends.Switch a other cases) b h = case_leads other cases b h
-  leads ends.Unreachable b h = absurd h
-
   edge_step : (a b : ℕ) (l : FlatBlock) → IsEdge (plain_body m g) a b → IsBlock (plain_body m g) b l → IsSuccessor g a b
-  edge_step a b l edge at =
-      let c = block_source a edge.0 edge.1 in
-      let d = block_source b l at in
-      let h : Has (formed.targets (rows c.0).end) b = subst (λ (k : FlatBlock). Has (formed.targets k.end) b) (sym c.2) (has_in (formed.targets edge.0.end) b edge.2) in
-      let t = leads c.0.end b h in
-      (c.0, d.0, c.1, d.1, subst (Contains (targets c.0.end)) (labelled g b d.0 t.0 d.1 t.2) (contains (targets c.0.end) t.0 t.1))
+  edge_step a b l edge at = from (edge_of m g a b edge) (block_of m g b l at)
+    where
+      from : GoesFrom m g a b → IsFrom m g b l → IsSuccessor g a b
+      from (c, at_c, (t, goes, to)) (d, at_d, same) = (c, d, at_c, at_d, subst (Contains (targets c.end)) (labelled g b d t at_d to) (contains (targets c.end) t goes))
 
   steps_of : (older : List ℕ) (b : ℕ) (k : FlatBlock) → IsPath (plain_body m g) (b ∷ older) → IsBlock (plain_body m g) b k → (slice_get (in_order (b ∷ older)) 0 ≡ Some 0) × Steps g (in_order (b ∷ older))
   steps_of [] b k p at = (ap Some p, tt)
   steps_of (a ∷ older) b k p at =
       let r = steps_of older a p.0.0 p.1 p.0.1 in
-      (begins (in_order (a ∷ older)) (b ∷ []) 0 r.0, step_more g (in_order older) a b r.1 (edge_step a b k p.0 at))
+      (left_at (in_order (a ∷ older)) (b ∷ []) 0 0 r.0, step_more g (in_order older) a b r.1 (edge_step a b k p.0 at))
 
   -- a path of the body is one of the function
   is_path : (older : List ℕ) (b : ℕ) (k : FlatBlock) → IsPath (plain_body m g) (b ∷ older) → IsBlock (plain_body m g) b k → IsPathOf g (in_order older ++ b ∷ [])
   is_path older b k p at = let r = steps_of older b k p at in (r.0, λ n x y e h. step_at g (in_order (b ∷ older)) r.1 n x y e h)
-
-  -- ---- phis
-
-  phi_parts : (r : Option LocalId) (op : Op) (q : Phi) → phi m r op ≡ Some q → (t : IrType) × (es : List Pair) × (op ≡ ops.Phi t es) × (q.entries ≡ map (entry m t) es)
-  phi_parts (Some d) (ops.Phi t es) q e = (t, es, refl, sym (let same : record { reg = register d; entries = map (entry m t) es } ≡ q = cc in ap (λ (f : Phi). f.entries) same))
-  phi_parts None (ops.Phi t es) q e = absurd cc
-  phi_parts (Some d) op q e = absurd cc
-  phi_parts None op q e = absurd cc
-
-  -- the phi and its pair of which an entry of a row was made
-  record EntryOf (l : Block) (e : Entry) : Type 0 where
-    instr : Instr
-    ty : IrType
-    pairs : List Pair
-    pair : Pair
-    stands : Has l.code instr
-    is_phi : instr.op ≡ ops.Phi ty pairs
-    among : Has pairs pair
-    makes : other_entry (numbers g) (entry m ty pair) ≡ e
-
-  pair_source : (t : IrType) (pairs : List Pair) (es : List Entry) (e : Entry) → es ≡ map (entry m t) pairs → Has (map (other_entry (numbers g)) es) e → (v : Pair) × Has pairs v × (other_entry (numbers g) (entry m t v) ≡ e)
-  pair_source t pairs es e same h =
-      let x = map_source (other_entry (numbers g)) es e h in
-      let y = map_source (entry m t) pairs x.0 (subst (λ (l : List Entry). Has l x.0) same x.1) in
-      (y.0, y.1, ap (other_entry (numbers g)) y.2 ∙ x.2)
-
-  entry_source : (l : Block) (f : Phi) (e : Entry) → Has (rows l).phis f → Has f.entries e → EntryOf l e
-  entry_source l f e hf he =
-      let o = map_source (other_phi (numbers g)) (filter_map (phi_row m) l.code) f hf in
-      let j = has_source (phi_row m) l.code o.0 o.1 in
-      let s = phi_parts j.0.result j.0.op o.0 j.2 in
-      let v = pair_source s.0 s.1 o.0.entries e s.3 (subst (λ (q : Phi). Has q.entries e) (sym o.2) he) in
-      record { instr = j.0; ty = s.0; pairs = s.1; pair = v.0; stands = j.1; is_phi = s.2; among = v.1; makes = v.2 }
 
   -- ---- what comes in on a path
 
@@ -232,69 +150,47 @@ module _ (m : Module) (g : Func) where
   comes_param [] r lt = lt
   comes_param (b ∷ older) r lt = inr (comes_param older r lt)
 
-  comes_in : (older : List ℕ) (a : ℕ) (c : Block) (r : ℕ) → Has older a → IsBlockOf g a c → IsWritten (rows c) (length (rows c).code) r → ComesIn (plain_body m g) older r
+  comes_in : (older : List ℕ) (a : ℕ) (c : Block) (r : ℕ) → Has older a → IsBlockOf g a c → IsWritten (row m g c) (length (row m g c).code) r → ComesIn (plain_body m g) older r
   comes_in [] a c r h at w = absurd h
-  comes_in (b ∷ older) a c r (inl e) at w = inl (rows c, subst (λ (z : ℕ). IsBlock (plain_body m g) z (rows c)) (sym e) (block_there a c at), w)
+  comes_in (b ∷ older) a c r (inl e) at w = inl (row m g c, subst (λ (z : ℕ). IsBlock (plain_body m g) z (row m g c)) (sym e) (block_there m g a c at), w)
   comes_in (b ∷ older) a c r (inr h) at w = inr (comes_in older a c r h at w)
 
 -- ---- what comes first
 
--- a name among the first has a number below theirs
-place_left : (xs ys : List LocalId) (d : LocalId) → Has xs d → position_or_len (is_local d.0) (xs ++ ys) < length xs
-place_left [] ys d h = absurd h
-place_left (x ∷ xs) ys d h = by_test (x.0 == d.0) refl (λ g. place_left xs ys d g) h
-  where
-    by_test : (t : Bool) → (x.0 == d.0) ≡ t → (Has xs d → position_or_len (is_local d.0) (xs ++ ys) < length xs) → (x ≡ d) ⊎ Has xs d → position_or_len (is_local d.0) (x ∷ (xs ++ ys)) < suc (length xs)
-    by_test true t rest g = rw t (omega arith)
-    by_test false t rest (inl same) = absurd (let k : x.0 ≡ d.0 = ap (λ (z : LocalId). z.0) same in grind (arith, nat_tests))
-    by_test false t rest (inr g) = rw t (let lt = rest g in omega arith)
-
-param_number : (g : Func) (d : LocalId) → IsParam g d → (numbers g).reg d.0 < length g.params
-param_number g d q =
-    let named : Has (map (λ (p : Param). p.name) g.params) d = subst (Has (map (λ (p : Param). p.name) g.params)) q.2 (has_mapped (λ (p : Param). p.name) g.params q.0 (has_in g.params q.0 q.1)) in
-    subst (λ (n : ℕ). (numbers g).reg d.0 < n) (length-map g.params (λ (p : Param). p.name)) (place_left (map (λ (p : Param). p.name) g.params) (flat_map results g.blocks) d named)
-
 module _ (m : Module) (g : Func) (proper : IsProperFunc g) (rules : IsValidFunc m g) where
-  -- each result of the function has a row that writes it
-  row_there : (c : Block) (i : Instr) (d : LocalId) → Has g.blocks c → Has c.code i → i.result ≡ Some d → NotFalse (HasRow m d i.result i.op)
-  row_there c i d hc hi e =
-      let stands : Contains (instrs g) i = contains (instrs g) i (has_part (λ (b : Block). b.code) g.blocks c i hc hi) in
-      let own : HasItsResult (record { place = i.place; result = Some d; op = i.op }) = subst (λ (r : Option LocalId). HasItsResult (record { place = i.place; result = r; op = i.op })) e (All-contains HasItsResult (instrs g) i proper.results stands) in
-      subst (λ (r : Option LocalId). NotFalse (HasRow m d r i.op)) (sym e) (has_row m i.place d i.op own (λ not. rules.calls i.place (i, stands, refl, not)))
-
   -- what one of the first instructions of a block writes, a phi of its rows or one of their first instructions writes
-  written_at : (c : Block) (p n : ℕ) → Has g.blocks c → Earlier (row m) c.code (filter_map (row m) c.code) p n → (d : LocalId) → Writes c p d → NotFalse (IsWritten (rows m g c) n ((numbers g).reg d.0))
-  written_at c p n hc earlier d w = in_turn (row_there c w.1 d hc here w.4) by_row
+  written_at : (c : Block) (p n : ℕ) → Has g.blocks c → Earlier (instr_row m) c.code (filter_map (instr_row m) c.code) p n → (d : LocalId) → Writes c p d → NotFalse (IsWritten (row m g c) n ((numbers g).reg d.0))
+  written_at c p n hc earlier d w = in_turn (result_row m g proper rules w.1 d (is_instr g c hc w.1 here) w.4) by_row
     where
       here : Has c.code w.1
       here = has_at c.code w.0 w.1 w.3
 
-      by_row : HasRow m d w.1.result w.1.op → IsWritten (rows m g c) n ((numbers g).reg d.0)
+      by_row : HasRow m d w.1.result w.1.op → IsWritten (row m g c) n ((numbers g).reg d.0)
       by_row (inl q) =
           let stands : Has (filter_map (phi_row m) c.code) q.0 = has_made (phi_row m) c.code w.1 q.0 here q.1 in
-          let other : Has (map (λ (f : Phi). f.reg.0) (rows m g c).phis) ((numbers g).reg q.0.reg.0) = has_mapped (λ (f : Phi). f.reg.0) (rows m g c).phis (other_phi (numbers g) q.0) (has_mapped (other_phi (numbers g)) (filter_map (phi_row m) c.code) q.0 stands) in
-          inl (contains (map (λ (f : Phi). f.reg.0) (rows m g c).phis) ((numbers g).reg d.0) (subst (λ (z : ℕ). Has (map (λ (f : Phi). f.reg.0) (rows m g c).phis) ((numbers g).reg z)) q.2 other))
+          let other : Has (map (λ (f : Phi). f.reg.0) (row m g c).phis) ((numbers g).reg q.0.reg.0) = has_mapped (λ (f : Phi). f.reg.0) (row m g c).phis (other_phi (numbers g) q.0) (has_mapped (other_phi (numbers g)) (filter_map (phi_row m) c.code) q.0 stands) in
+          inl (contains (map (λ (f : Phi). f.reg.0) (row m g c).phis) ((numbers g).reg d.0) (subst (λ (z : ℕ). Has (map (λ (f : Phi). f.reg.0) (row m g c).phis) ((numbers g).reg z)) q.2 other))
       by_row (inr r) =
           let at = earlier w.0 w.1 r.0 w.2 w.3 r.1 in
-          inr (at.0, other_instr (numbers g) r.0, at.1, slice_get-map (other_instr (numbers g)) (filter_map (row m) c.code) at.0 ∙ ap (option_map (other_instr (numbers g))) at.2, written_other (numbers g) r.0 ∙ ap (option_map (numbers g).reg) r.2)
+          inr (at.0, other_instr (numbers g) r.0, at.1, slice_get-map (other_instr (numbers g)) (filter_map (instr_row m) c.code) at.0 ∙ ap (option_map (other_instr (numbers g))) at.2, written_other (numbers g) r.0 ∙ ap (option_map (numbers g).reg) r.2)
 
   -- before n rows of a block, of its first p instructions, on a path
-  module _ (older : List ℕ) (b p n : ℕ) (c : Block) (found : IsBlockOf g b c) (earlier : Earlier (row m) c.code (filter_map (row m) c.code) p n) where
+  module _ (older : List ℕ) (b p n : ℕ) (c : Block) (found : IsBlockOf g b c) (earlier : Earlier (instr_row m) c.code (filter_map (instr_row m) c.code) p n) where
     abbrev IsThere : ℕ → Type 0
-    IsThere r = IsWritten (rows m g c) n r ⊎ ComesIn (plain_body m g) older r
+    IsThere r = IsWritten (row m g c) n r ⊎ ComesIn (plain_body m g) older r
 
     -- what is assigned comes first
     is_there : (d : LocalId) → IsAssigned g (in_order older) b p d → NotFalse (IsThere ((numbers g).reg d.0))
-    is_there d (inl q) = true_too (inr (comes_param m g older ((numbers g).reg d.0) (param_number g d q)))
+    is_there d (inl q) = true_too (inr (comes_param m g older ((numbers g).reg d.0) (param_first g d q)))
     is_there d (inr (inl k)) =
         let w : Writes c p d = subst (λ (z : Block). Writes z p d) (one_at (slice_get g.blocks b) k.0 c k.1 found) k.2 in
         in_turn (written_at c p n (has_at g.blocks b c found) earlier d w) (λ w. inl w)
     is_there d (inr (inr k)) =
         let l : Block = k.1 in
-        in_turn (written_at l (length l.code) (length (rows m g l).code) (has_at g.blocks k.0 l k.3) (all_earlier (row m) (other_instr (numbers g)) l.code) d k.4)
+        in_turn (written_at l (length l.code) (length (row m g l).code) (has_at g.blocks k.0 l k.3) (all_earlier (instr_row m) (other_instr (numbers g)) l.code) d k.4)
         (λ w. inr (comes_in m g older k.0 l ((numbers g).reg d.0) (is_older older k.0 (has_in (in_order older) k.0 k.2)) k.3 w))
 
-    only_registers : (o : FlatOp) → ((x : RegId) → o ≡ Reg x → NotFalse (IsThere ((numbers g).reg x.0))) → NotFalse (ComesFirst (plain_body m g) older (rows m g c) n (other_operand (numbers g) o))
+    only_registers : (o : FlatOp) → ((x : RegId) → o ≡ Reg x → NotFalse (IsThere ((numbers g).reg x.0))) → NotFalse (ComesFirst (plain_body m g) older (row m g c) n (other_operand (numbers g) o))
     only_registers (Reg x) h = h x refl
     only_registers (Word a) h = true_too tt
     only_registers Null h = true_too tt
@@ -302,10 +198,10 @@ module _ (m : Module) (g : Func) (proper : IsProperFunc g) (rules : IsValidFunc 
     only_registers Poison h = true_too tt
 
     all_first : (vs : List Operand) (os : List FlatOp) → AreOf vs os → ((d : LocalId) → Has (flat_map operand_locals vs) d → NotFalse (IsAssigned g (in_order older) b p d))
-        → NotFalse (All (ComesFirst (plain_body m g) older (rows m g c) n) (map (other_operand (numbers g)) os))
-    all_first vs os are assigned = all_had (ComesFirst (plain_body m g) older (rows m g c) n) (map (other_operand (numbers g)) os) (λ o h.
-        let s = map_source (other_operand (numbers g)) os o h in
-        subst (λ (z : FlatOp). NotFalse (ComesFirst (plain_body m g) older (rows m g c) n z)) s.2
+        → NotFalse (All (ComesFirst (plain_body m g) older (row m g c) n) (map (other_operand (numbers g)) os))
+    all_first vs os are assigned = each_too (ComesFirst (plain_body m g) older (row m g c) n) (map (other_operand (numbers g)) os) (λ o h.
+        let s = map_source (other_operand (numbers g)) os o (has_in (map (other_operand (numbers g)) os) o h) in
+        subst (λ (z : FlatOp). NotFalse (ComesFirst (plain_body m g) older (row m g c) n z)) s.2
         (only_registers s.0 (λ x e. and_so (assigned (record { 0 = x.0 }) (are x (subst (Has os) e s.1))) (λ a. is_there (record { 0 = x.0 }) a))))
 
     -- by the rule, what is used is assigned
@@ -313,37 +209,38 @@ module _ (m : Module) (g : Func) (proper : IsProperFunc g) (rules : IsValidFunc 
     assigned_for path place d used not = rules.assignment place (in_order older, b, d, (p, path, used, not))
 
   -- each operand of a row of a block on a path
-  in_code : (b : ℕ) (older : List ℕ) (c : Block) (n : ℕ) (i : FlatInstr) → IsPathOf g (in_order older ++ b ∷ []) → IsBlockOf g b c → slice_get (rows m g c).code n ≡ Some i
-      → NotFalse (All (ComesFirst (plain_body m g) older (rows m g c) n) (used_by i))
+  in_code : (b : ℕ) (older : List ℕ) (c : Block) (n : ℕ) (i : FlatInstr) → IsPathOf g (in_order older ++ b ∷ []) → IsBlockOf g b c → slice_get (row m g c).code n ≡ Some i
+      → NotFalse (All (ComesFirst (plain_body m g) older (row m g c) n) (used_by i))
   in_code b older c n i path found e =
-      let o = mapped (other_instr (numbers g)) (slice_get (filter_map (row m) c.code) n) i (sym (slice_get-map (other_instr (numbers g)) (filter_map (row m) c.code) n) ∙ e) in
-      let s = source_at (row m) c.code n o.0 o.1 in
+      let o = mapped (other_instr (numbers g)) (slice_get (filter_map (instr_row m) c.code) n) i (sym (slice_get-map (other_instr (numbers g)) (filter_map (instr_row m) c.code) n) ∙ e) in
+      let s = source_at (instr_row m) c.code n o.0 o.1 in
       let j : Instr = s.element in
-      let are : AreOf (op_values j.op) (used_by o.0) = subst (RowOf m j.op) s.makes (row_of m j.result j.op) in
+      let are : AreOf (op_values j.op) (used_by o.0) = row_of m j.result j.op o.0 s.makes in
       let used : (d : LocalId) → Has (flat_map operand_locals (op_values j.op)) d → IsUse g b s.place d j.place = λ d h. inl (c, j, found, s.found, refl, no_phi m j.result j.op o.0 s.makes, contains (flat_map operand_locals (op_values j.op)) d h) in
-      subst (λ (z : FlatInstr). NotFalse (All (ComesFirst (plain_body m g) older (rows m g c) n) (used_by z))) o.2
-      (subst (λ (os : List FlatOp). NotFalse (All (ComesFirst (plain_body m g) older (rows m g c) n) os)) (sym (used_other (numbers g) o.0))
+      subst (λ (z : FlatInstr). NotFalse (All (ComesFirst (plain_body m g) older (row m g c) n) (used_by z))) o.2
+      (subst (λ (os : List FlatOp). NotFalse (All (ComesFirst (plain_body m g) older (row m g c) n) os)) (sym (used_other (numbers g) o.0))
       (all_first older b s.place n c found s.earlier (op_values j.op) (used_by o.0) are (λ d h. assigned_for older b s.place n c found s.earlier path j.place d (used d h))))
 
   at_end : (b : ℕ) (older : List ℕ) (c : Block) → IsPathOf g (in_order older ++ b ∷ []) → IsBlockOf g b c
-      → NotFalse (All (ComesFirst (plain_body m g) older (rows m g c) (length (rows m g c).code)) (used_at_end (rows m g c).end))
+      → NotFalse (All (ComesFirst (plain_body m g) older (row m g c) (length (row m g c).code)) (used_at_end (row m g c).end))
   at_end b older c path found =
-      let n : ℕ = length (rows m g c).code in
-      let earlier : Earlier (row m) c.code (filter_map (row m) c.code) (length c.code) n = all_earlier (row m) (other_instr (numbers g)) c.code in
+      let n : ℕ = length (row m g c).code in
+      let earlier : Earlier (instr_row m) c.code (filter_map (instr_row m) c.code) (length c.code) n = all_earlier (instr_row m) (other_instr (numbers g)) c.code in
       let used : (d : LocalId) → Has (flat_map operand_locals (end_values c.end)) d → IsUse g b (length c.code) d c.end_place = λ d h. inr (inl (c, found, refl, refl, contains (flat_map operand_locals (end_values c.end)) d h)) in
-      subst (λ (os : List FlatOp). NotFalse (All (ComesFirst (plain_body m g) older (rows m g c) n) os)) (sym (end_used_other (numbers g) (terminator m c.end)))
+      subst (λ (os : List FlatOp). NotFalse (All (ComesFirst (plain_body m g) older (row m g c) n) os)) (sym (end_used_other (numbers g) (terminator m c.end)))
       (all_first older b (length c.code) n c found earlier (end_values c.end) (used_at_end (terminator m c.end)) (end_of m c.end) (λ d h. assigned_for older b (length c.code) n c found earlier path c.end_place d (used d h)))
 
-  in_phi : (b : ℕ) (older : List ℕ) (c l : Block) (e : Entry) → IsPathOf g (in_order older ++ b ∷ []) → IsBlockOf g b c → Has g.blocks l → EntryOf m g l e → e.from.0 ≡ b
-      → NotFalse (ComesFirst (plain_body m g) older (rows m g c) (length (rows m g c).code) e.value)
-  in_phi b older c l e path found hl s from =
-      let n : ℕ = length (rows m g c).code in
-      let earlier : Earlier (row m) c.code (filter_map (row m) c.code) (length c.code) n = all_earlier (row m) (other_instr (numbers g)) c.code in
-      let label : s.pair.from ≡ c.label = labelled g b c s.pair.from found (subst (λ (z : Entry). z.from.0 ≡ b) (sym s.makes) from) in
-      let used : (r : RegId) → operand m s.ty s.pair.value ≡ Reg r → IsUse g b (length c.code) (record { 0 = r.0 }) s.instr.place = λ r h.
-      inr (inr (c, l, s.instr, s.ty, s.pairs, s.pair, found, refl, contains g.blocks l hl, contains l.code s.instr s.stands, refl, s.is_phi, contains s.pairs s.pair s.among, label, is_local_name m s.ty s.pair.value r h)) in
-      subst (λ (z : Entry). NotFalse (ComesFirst (plain_body m g) older (rows m g c) n z.value)) s.makes
-      (only_registers older b (length c.code) n c found earlier (operand m s.ty s.pair.value) (λ r h.
+  in_phi : (b : ℕ) (older : List ℕ) (c l : Block) (entries : List Entry) (e : Entry) → IsPathOf g (in_order older ++ b ∷ []) → IsBlockOf g b c → Has g.blocks l → Source m g l entries → Has entries e → e.from.0 ≡ b
+      → NotFalse (ComesFirst (plain_body m g) older (row m g c) (length (row m g c).code) e.value)
+  in_phi b older c l entries e path found hl s he from =
+      let v = pair_of m g l entries s e he in
+      let n : ℕ = length (row m g c).code in
+      let earlier : Earlier (instr_row m) c.code (filter_map (instr_row m) c.code) (length c.code) n = all_earlier (instr_row m) (other_instr (numbers g)) c.code in
+      let label : v.0.from ≡ c.label = labelled g b c v.0.from found (subst (λ (z : Entry). z.from.0 ≡ b) (sym v.2) from) in
+      let used : (r : RegId) → operand m s.ty v.0.value ≡ Reg r → IsUse g b (length c.code) (record { 0 = r.0 }) s.instr.place = λ r h.
+      inr (inr (c, l, s.instr, s.ty, s.pairs, v.0, found, refl, contains g.blocks l hl, contains l.code s.instr s.stands, refl, s.is_phi, contains s.pairs v.0 v.1, label, is_local_name m s.ty v.0.value r h)) in
+      subst (λ (z : Entry). NotFalse (ComesFirst (plain_body m g) older (row m g c) n z.value)) v.2
+      (only_registers older b (length c.code) n c found earlier (operand m s.ty v.0.value) (λ r h.
       and_so (assigned_for older b (length c.code) n c found earlier path s.instr.place (record { 0 = r.0 }) (used r h))
       (λ a. is_there older b (length c.code) n c found earlier (record { 0 = r.0 }) a)))
 
@@ -358,21 +255,21 @@ module _ (m : Module) (proper : IsProper m) (valid : IsValid m) (x : ℕ) (g : F
 
   pub code_comes_first : (b : ℕ) (older : List ℕ) (k : FlatBlock) (n : ℕ) (i : FlatInstr) → IsPath (plain_body m g) (b ∷ older) → IsBlock (plain_body m g) b k → slice_get k.code n ≡ Some i → NotFalse (All (ComesFirst (plain_body m g) older k n) (used_by i))
   code_comes_first b older k n i path there e =
-      let c = block_source m g b k there in
+      let c = block_of m g b k there in
       subst (λ (l : FlatBlock). NotFalse (All (ComesFirst (plain_body m g) older l n) (used_by i))) c.2
       (in_code m g func_proper func_rules b older c.0 n i (is_path m g older b k path there) c.1 (subst (λ (l : FlatBlock). slice_get l.code n ≡ Some i) (sym c.2) e))
 
   pub end_comes_first : (b : ℕ) (older : List ℕ) (k : FlatBlock) → IsPath (plain_body m g) (b ∷ older) → IsBlock (plain_body m g) b k → NotFalse (All (ComesFirst (plain_body m g) older k (length k.code)) (used_at_end k.end))
   end_comes_first b older k path there =
-      let c = block_source m g b k there in
+      let c = block_of m g b k there in
       subst (λ (l : FlatBlock). NotFalse (All (ComesFirst (plain_body m g) older l (length l.code)) (used_at_end l.end))) c.2
       (at_end m g func_proper func_rules b older c.0 (is_path m g older b k path there) c.1)
 
   pub phi_comes_first : (b c : ℕ) (older : List ℕ) (k l : FlatBlock) (f : Phi) (e : Entry) → IsPath (plain_body m g) (c ∷ b ∷ older) → IsBlock (plain_body m g) b k → IsBlock (plain_body m g) c l → Contains l.phis f → Contains f.entries e → e.from.0 ≡ b
       → NotFalse (ComesFirst (plain_body m g) older k (length k.code) e.value)
   phi_comes_first b c older k l f e path there to hf he from =
-      let s = block_source m g b k there in
-      let t = block_source m g c l to in
-      let made : EntryOf m g t.0 e = entry_source m g t.0 f e (subst (λ (z : FlatBlock). Has z.phis f) (sym t.2) (has_in l.phis f hf)) (has_in f.entries e he) in
+      let s = block_of m g b k there in
+      let t = block_of m g c l to in
+      let made : Source m g t.0 f.entries = source_of m g t.0 f (subst (λ (z : FlatBlock). Has z.phis f) (sym t.2) (has_in l.phis f hf)) in
       subst (λ (z : FlatBlock). NotFalse (ComesFirst (plain_body m g) older z (length z.code) e.value)) s.2
-      (in_phi m g func_proper func_rules b older s.0 t.0 e (is_path m g older b k path.1 there) s.1 (has_at g.blocks c t.0 t.1) made from)
+      (in_phi m g func_proper func_rules b older s.0 t.0 f.entries e (is_path m g older b k path.1 there) s.1 (has_at g.blocks c t.0 t.1) made (has_in f.entries e he) from)

@@ -41,36 +41,17 @@ use Rattle.ir_core.specs.ValidOps.{IsDefinedAs, IsExternal, IsDeclaredAs, CallsW
 use Rattle.ir_core.proofs.Lists.{Has, has_at, at_has, has_part, contains, has_source, element, place_within, place_has, all_at, has_in, mapped}
 use Rattle.ir_safety.proofs.Safe.{NotFalse, in_turn}
 use Rattle.ir_safety.specs.PlainTypes.{func_type, result_scalar, plain_funcs}
-use Rattle.ir_safety.proofs.Registers.{mapped_twice}
-use Rattle.ir_safety.proofs.Named.{same_symbol, introduced_once}
+use Rattle.ir_safety.proofs.Elements.{left_at, mapped_twice}
+use Rattle.ir_safety.proofs.PlainEdges.{IsFrom, block_of}
+use Rattle.ir_safety.proofs.PlainRows.{instr_row}
+use Rattle.ir_safety.proofs.PlainSources.{is_instr, code_source}
+use Rattle.ir_safety.proofs.Named.{same_symbol, introduced_once, named_func, named_any}
 
 -- ---- lists
-
-left_at : {A : Type 0} (xs ys : List A) (k : ℕ) (x : A) → slice_get xs k ≡ Some x → slice_get (xs ++ ys) k ≡ Some x
-left_at [] ys k x e = cc
-left_at (y ∷ xs) ys zero x e = e
-left_at (y ∷ xs) ys (suc k) x e = left_at xs ys k x e
 
 right_at : {A : Type 0} (xs ys : List A) (k : ℕ) → slice_get (xs ++ ys) (length xs + k) ≡ slice_get ys k
 right_at [] ys k = let n : 0 + k ≡ k = omega arith in ap (slice_get ys) n
 right_at (x ∷ xs) ys k = let n : suc (length xs) + k ≡ suc (length xs + k) = omega arith in ap (slice_get (x ∷ (xs ++ ys))) n ∙ right_at xs ys k
-
-any_has : {A : Type 0} (p : A → Bool) (xs : List A) → list_any p xs ≡ true → (x : A) × Has xs x × (p x ≡ true)
-any_has p [] e = cc
-any_has {A} p (x ∷ xs) e = by_test (p x) refl (λ g. any_has p xs g)
-  where
-    by_test : (t : Bool) → p x ≡ t → (list_any p xs ≡ true → (y : A) × Has xs y × (p y ≡ true)) → (y : A) × Has (x ∷ xs) y × (p y ≡ true)
-    by_test true t rest = (x, inl refl, t)
-    by_test false t rest = let r = rest (subst (λ b. (b || list_any p xs) ≡ true) t e) in (r.0, inr r.1, r.2)
-
-any_of : {A : Type 0} (p : A → Bool) (xs : List A) (x : A) → Has xs x → p x ≡ true → list_any p xs ≡ true
-any_of p [] x h e = absurd h
-any_of p (y ∷ ys) x (inl same) e = ap (λ t. t || list_any p ys) (ap p same ∙ e)
-any_of p (y ∷ ys) x (inr h) e = by_test (p y) (any_of p ys x h e)
-  where
-    by_test : (t : Bool) → list_any p ys ≡ true → (t || list_any p ys) ≡ true
-    by_test true g = refl
-    by_test false g = g
 
 -- what passes the test stands at the first place that does
 first_at : {A : Type 0} (p : A → Bool) (xs : List A) (x : A) → Has xs x → p x ≡ true → (y : A) × (slice_get xs (position_or_len p xs) ≡ Some y) × (p y ≡ true)
@@ -211,9 +192,7 @@ module _ (m : Module) (valid : IsValid m) where
 
   not_defined : (s : SymId) (t : IrType) (ts : List IrType) → is_defined m s ≡ false → IsDefinedAs m s t ts → ⊥
   not_defined s t ts e d =
-      let k : d.0.name.0 ≡ s.0 = ap (λ (x : SymId). x.0) d.2 in
-      let test : (d.0.name.0 == s.0) ≡ true = grind (arith, nat_tests) in
-      let both : false ≡ true = sym e ∙ any_of (λ (f : Func). f.name.0 == s.0) m.funcs d.0 (has_in m.funcs d.0 d.1) test in
+      let both : false ≡ true = sym e ∙ named_any s m.funcs d.0 (has_in m.funcs d.0 d.1) d.2 in
       cc
 
   call_one : (d : Option RegId) (s : SymId) (args : List FlatOp) (t : IrType) (ts : List IrType) → IsDefinedAs m s t ts ⊎ IsDeclaredAs m s t ts → CallsOne (call m d s args)
@@ -230,10 +209,8 @@ module _ (m : Module) (valid : IsValid m) where
 
       by_defined : (b : Bool) → is_defined m s ≡ b → CallsOne (if b then inner d s args else outer d s args (symbol_text m s))
       by_defined true e =
-          let f = any_has (λ (f : Func). f.name.0 == s.0) m.funcs e in
-          let test : (f.0.name.0 == s.0) ≡ true = f.2 in
-          let k : f.0.name.0 ≡ s.0 = grind (arith, nat_tests) in
-          named_at s f.0 f.1 k
+          let f = named_func s m.funcs e in
+          named_at s f.0 f.1 (ap (λ (x : SymId). x.0) f.2)
       by_defined false e = by_rule e well
 
   row_calls : (r : Option LocalId) (op : Op) → CallsWell m op → MayCall (instruction m r op)
@@ -273,12 +250,6 @@ module _ (m : Module) (valid : IsValid m) where
   other_calls n (flat.Get d) h = tt
   other_calls n (flat.Exit a) h = tt
 
-  abbrev plain_block : Func → Block → FlatBlock
-  plain_block f b = renumbered (numbers f) (block_rows m b)
-
-  abbrev made : Instr → Option FlatInstr
-  made j = instruction m j.result j.op
-
   -- what a plain body calls is there
   pub called : (f b n : ℕ) (body : FlatBody) (k : FlatBlock) (d : Option RegId) (g : FuncId) (args : List FlatOp) → (plain_program m).body f ≡ Some body → IsBlock body b k → slice_get k.code n ≡ Some (flat.Call d g args)
       → NotFalse ((callee : FlatBody) × ((plain_program m).body g.0 ≡ Some callee))
@@ -287,23 +258,19 @@ module _ (m : Module) (valid : IsValid m) where
       func : (h : Func) × (slice_get m.funcs f ≡ Some h) × (plain_body m h ≡ body)
       func = mapped (plain_body m) (slice_get m.funcs f) body at_f
 
-      block : (c : Block) × (slice_get func.0.blocks b ≡ Some c) × (plain_block func.0 c ≡ k)
-      block = mapped (plain_block func.0) (slice_get func.0.blocks b) k (sym (slice_get-map (plain_block func.0) func.0.blocks b) ∙ ap (λ (z : FlatBody). slice_get z.blocks b) func.2 ∙ at_b)
+      block : IsFrom m func.0 b k
+      block = block_of m func.0 b k (ap (λ (z : FlatBody). slice_get z.blocks b) func.2 ∙ at_b)
 
-      row : (i : FlatInstr) × (slice_get (filter_map made block.0.code) n ≡ Some i) × (other_instr (numbers func.0) i ≡ flat.Call d g args)
-      row = mapped (other_instr (numbers func.0)) (slice_get (filter_map made block.0.code) n) (flat.Call d g args)
-          (sym (slice_get-map (other_instr (numbers func.0)) (filter_map made block.0.code) n) ∙ ap (λ (l : FlatBlock). slice_get l.code n) block.2 ∙ at_n)
+      row : (j : Instr) × (i : FlatInstr) × Has block.0.code j × (instr_row m j ≡ Some i) × (other_instr (numbers func.0) i ≡ flat.Call d g args)
+      row = code_source m func.0 block.0 (flat.Call d g args) (subst (λ (l : FlatBlock). Has l.code (flat.Call d g args)) (sym block.2) (has_at k.code n (flat.Call d g args) at_n))
 
-      instr : (j : Instr) × Has block.0.code j × (made j ≡ Some row.0)
-      instr = has_source made block.0.code row.0 (has_at (filter_map made block.0.code) n row.0 row.1)
-
-      rule : NotFalse (CallsWell m instr.0.op)
+      rule : NotFalse (CallsWell m row.0.op)
       rule none =
-          let stands : Has (instrs func.0) instr.0 = has_part (λ (c : Block). c.code) func.0.blocks block.0 instr.0 (has_at func.0.blocks b block.0 block.1) instr.1 in
-          (all_at (IsValidFunc m) m.funcs f func.0 valid.each_func func.1).calls instr.0.place (instr.0, contains (instrs func.0) instr.0 stands, refl, none)
+          let stands : Contains (instrs func.0) row.0 = is_instr func.0 block.0 (has_at func.0.blocks b block.0 block.1) row.0 row.2 in
+          (all_at (IsValidFunc m) m.funcs f func.0 valid.each_func func.1).calls row.0.place (row.0, stands, refl, none)
 
-      callee : CallsWell m instr.0.op → (callee : FlatBody) × ((plain_program m).body g.0 ≡ Some callee)
+      callee : CallsWell m row.0.op → (callee : FlatBody) × ((plain_program m).body g.0 ≡ Some callee)
       callee w =
-          let its : CallsOne row.0 = subst MayCall instr.2 (row_calls instr.0.result instr.0.op w) in
-          let there : CallsOne (flat.Call d g args) = subst CallsOne row.2 (other_calls (numbers func.0) row.0 its) in
+          let its : CallsOne row.1 = subst MayCall row.3 (row_calls row.0.result row.0.op w) in
+          let there : CallsOne (flat.Call d g args) = subst CallsOne row.4 (other_calls (numbers func.0) row.1 its) in
           (plain_body m there.0, ap (option_map (plain_body m)) there.1)

@@ -29,6 +29,7 @@ use Rattle.ir_core.specs.Flat.{Program}
 use Rattle.ir_core.specs.Formed.{FuncType, HasType, is_cast, IsAlign, Receives, AllTyped, IsTyped, ReturnsType, DifferentCases, IsEndTyped}
 use Rattle.ir_core.specs.Formed.{IsBlock, IsEdge, IsPath, IsWritten, ComesIn, ComesFirst, DefinedFirst, written_by, used_by, used_at_end, targets}
 use Rattle.ir_core.proofs.Lists.{Has, contains, has_in}
+use Rattle.ir_safety.proofs.Elements.{none_is_none, same_some}
 use Rattle.ir_safety.proofs.Safe.{NotFalse, IsTypedInstr, IsTypedEnd, IsSafeBody, IsSafe}
 
 -- ---- what is decided
@@ -73,25 +74,19 @@ is_at_most a b = ⊎_elim (λ lt. inr (λ le. absurd (omega (arith, lt, le)))) (
 
 -- ---- options and lists
 
-some_same : {A : Type 0} (x y : A) → Some x ≡ Some y → x ≡ y
-some_same x y e = cc
-
-not_some : {A : Type 0} (x : A) → None ≡ Some x → ⊥
-not_some x e = cc
-
 pub same_option : {A : Type 0} → ((x y : A) → Decided (x ≡ y)) → (o p : Option A) → Decided (o ≡ p)
 same_option same None None = inl refl
-same_option same None (Some y) = inr (λ e. not_some y e)
-same_option same (Some x) None = inr (λ e. not_some x (sym e))
-same_option same (Some x) (Some y) = alike (λ e. ap Some e) (λ e. some_same x y e) (same x y)
+same_option same None (Some y) = inr (λ e. none_is_none y e)
+same_option same (Some x) None = inr (λ e. none_is_none x (sym e))
+same_option same (Some x) (Some y) = alike (λ e. ap Some e) (λ e. same_some x y e) (same x y)
 
 -- there is one, and it is P
 pub one_is : {A : Type 0} (P : A → Type 0) → ((x : A) → Decided (P x)) → (o : Option A) → Decided ((x : A) × (o ≡ Some x) × P x)
-one_is P test None = inr (λ h. not_some h.0 h.1)
-one_is P test (Some x) = alike (λ p. (x, refl, p)) (λ h. subst P (sym (some_same x h.0 h.1)) h.2) (test x)
+one_is P test None = inr (λ h. none_is_none h.0 h.1)
+one_is P test (Some x) = alike (λ p. (x, refl, p)) (λ h. subst P (sym (same_some x h.0 h.1)) h.2) (test x)
 
 pub one_there : {A : Type 0} (o : Option A) → Decided ((x : A) × (o ≡ Some x))
-one_there None = inr (λ h. not_some h.0 h.1)
+one_there None = inr (λ h. none_is_none h.0 h.1)
 one_there (Some x) = inl (x, refl)
 
 is_empty : {A : Type 0} (xs : List A) → Decided (xs ≡ [])

@@ -17,6 +17,7 @@ use Rattle.ir_core.specs.Proper.{IsProper}
 use Rattle.ir_core.specs.Valid.{IsValid}
 use Rattle.ir_core.proofs.Lists.{all_at, mapped}
 use Rattle.ir_safety.specs.PlainTypes.{func_types, func_type, plain_types, plain_funcs, HasFewNumbers}
+use Rattle.ir_safety.proofs.PlainEdges.{row}
 use Rattle.ir_safety.proofs.Decided.{IsKnownBody, IsKnown, known, defined_first, typed, typed_end}
 use Rattle.ir_safety.proofs.FormedNumbers.{no_way_back, few_params, written_once, written}
 use Rattle.ir_safety.proofs.FormedUses.{used, addresses}
@@ -35,7 +36,7 @@ module _ (m : Module) (proper : IsProper m) (valid : IsValid m) (few : HasFewNum
         entry = h.entry;
         no_way_back = no_way_back m proper valid g f at;
         few_params = few_params m proper valid g f at;
-        numbers = (numbered.0, subst (λ (n : ℕ). n < 4294967296) (sym (length-map f.blocks (λ (b : Block). renumbered (numbers f) (block_rows m b)))) numbered.1);
+        numbers = (numbered.0, subst (λ (n : ℕ). n < 4294967296) (sym (length-map f.blocks (row m f))) numbered.1);
         own_params = h.own_params;
         in_range = h.in_range;
         phis = λ b k q is has. (phi_formed m proper valid g f at b k q is has, phi_register m proper valid g f at b k q is has, h.phi_types b k q is has);

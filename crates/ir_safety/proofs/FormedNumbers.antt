@@ -25,26 +25,20 @@ use Rattle.ir_core.specs.Proper.{IsProper, IsProperFunc}
 use Rattle.ir_core.specs.Valid.{IsValid, IsValidFunc}
 use Rattle.ir_core.proofs.Lists.{Has, Each, Apart, each_of, each_from, has_at, has_right, has_part, has_made, has_mapped, has_source, map_source, contains, all_at, element, mapped_parts, place, place_within, place_has}
 use Rattle.ir_core.proofs.SoundRules.{same_name}
-use Rattle.ir_safety.proofs.Registers.{in_part, mapped_twice}
+use Rattle.ir_safety.proofs.Elements.{each_joined, in_part, mapped_twice, one_key}
 use Rattle.ir_safety.proofs.RowUses.{written_other}
-use Rattle.ir_safety.proofs.PlainEdges.{row, GoesFrom, edge_of}
-use Rattle.ir_safety.proofs.PlainRows.{writes_result, phi_is, phi_alone}
-use Rattle.ir_safety.proofs.Once.{each_joined, apart_between, apart_parts, apart_made, pairs_differ, result_names, label, own_names, blocks_once, no_param}
+use Rattle.ir_safety.proofs.PlainEdges.{row, GoesFrom, edge_of, labelled}
+use Rattle.ir_safety.proofs.PlainRows.{instr_row, phi_row, writes_result, phi_is, phi_alone}
+use Rattle.ir_safety.proofs.Once.{apart_between, apart_parts, apart_made, pairs_differ, result_names, label, own_names, blocks_once, no_param}
 
 -- ---- what the rows of some instructions write
 
 module _ (m : Module) where
-  abbrev pub instr_row : Instr → Option FlatInstr
-  instr_row i = instruction m i.result i.op
-
-  abbrev pub phi_row : Instr → Option Phi
-  phi_row i = phi m i.result i.op
-
   abbrev pub phi_names : List Instr → List ℕ
-  phi_names code = map (λ (q : Phi). q.reg.0) (filter_map phi_row code)
+  phi_names code = map (λ (q : Phi). q.reg.0) (filter_map (phi_row m) code)
 
   abbrev pub row_names : List Instr → List ℕ
-  row_names code = filter_map written_by (filter_map instr_row code)
+  row_names code = filter_map written_by (filter_map (instr_row m) code)
 
   abbrev pub written_names : List Instr → List ℕ
   written_names code = phi_names code ++ row_names code
@@ -54,14 +48,14 @@ module _ (m : Module) where
 
   by_phi : (code : List Instr) (x : ℕ) → Has (phi_names code) x → Has (result_names code) x
   by_phi code x h =
-      let q = map_source (λ (q : Phi). q.reg.0) (filter_map phi_row code) x h in
-      let i = has_source phi_row code q.0 q.1 in
+      let q = map_source (λ (q : Phi). q.reg.0) (filter_map (phi_row m) code) x h in
+      let i = has_source (phi_row m) code q.0 q.1 in
       subst (Has (result_names code)) q.2 (is_result code i.0 q.0.reg.0 i.1 (phi_is m i.0.result i.0.op q.0 i.2).result)
 
   by_row : (code : List Instr) (x : ℕ) → Has (row_names code) x → Has (result_names code) x
   by_row code x h =
-      let w = has_source written_by (filter_map instr_row code) x h in
-      let i = has_source instr_row code w.0 w.1 in
+      let w = has_source written_by (filter_map (instr_row m) code) x h in
+      let i = has_source (instr_row m) code w.0 w.1 in
       is_result code i.0 x i.1 (writes_result m i.0.result i.0.op w.0 x i.2 w.2)
 
   -- what is written is a result
@@ -78,25 +72,25 @@ module _ (m : Module) where
   -- and written once where no result is named twice
   code_once : (code : List Instr) → Apart (result_names code) → Apart (written_names code)
   code_once [] a = tt
-  code_once (i ∷ is) a = first (phi_row i) refl (code_once is (behind i.result (filter_map (λ (j : Instr). j.result) is) a))
+  code_once (i ∷ is) a = first (phi_row m i) refl (code_once is (behind i.result (filter_map (λ (j : Instr). j.result) is) a))
     where
       away : (x : ℕ) → i.result ≡ Some (record { 0 = x }) → Each (λ y. x ≢ y) (written_names is)
       away x e =
           let front = subst (λ (r : Option LocalId). Apart (map (λ (y : LocalId). y.0) (cons_option r (filter_map (λ (j : Instr). j.result) is)))) e a in
           each_from (λ (y : ℕ). x ≢ y) (written_names is) (λ y h. each_of (λ (z : ℕ). x ≢ z) (result_names is) y front.0 (is_named is y h))
 
-      by_written : (w : FlatInstr) → instr_row i ≡ Some w → (o : Option ℕ) → written_by w ≡ o → Apart (written_names is) → Apart (phi_names is ++ cons_option o (row_names is))
+      by_written : (w : FlatInstr) → instr_row m i ≡ Some w → (o : Option ℕ) → written_by w ≡ o → Apart (written_names is) → Apart (phi_names is ++ cons_option o (row_names is))
       by_written w e None is_o rest = rest
       by_written w e (Some x) is_o rest = apart_between (phi_names is) (row_names is) x rest (away x (writes_result m i.result i.op w x e is_o))
 
-      second : (o : Option FlatInstr) → instr_row i ≡ o → Apart (written_names is) → Apart (phi_names is ++ filter_map written_by (cons_option o (filter_map instr_row is)))
+      second : (o : Option FlatInstr) → instr_row m i ≡ o → Apart (written_names is) → Apart (phi_names is ++ filter_map written_by (cons_option o (filter_map (instr_row m) is)))
       second None e rest = rest
       second (Some w) e rest = by_written w e (written_by w) refl rest
 
-      first : (o : Option Phi) → phi_row i ≡ o → Apart (written_names is) → Apart (map (λ (q : Phi). q.reg.0) (cons_option o (filter_map phi_row is)) ++ row_names (i ∷ is))
-      first None e rest = second (instr_row i) refl rest
+      first : (o : Option Phi) → phi_row m i ≡ o → Apart (written_names is) → Apart (map (λ (q : Phi). q.reg.0) (cons_option o (filter_map (phi_row m) is)) ++ row_names (i ∷ is))
+      first None e rest = second (instr_row m i) refl rest
       first (Some q) e rest =
-          subst (λ (o : Option FlatInstr). Apart (q.reg.0 ∷ (phi_names is ++ filter_map written_by (cons_option o (filter_map instr_row is))))) (sym (phi_alone m i.result i.op q e))
+          subst (λ (o : Option FlatInstr). Apart (q.reg.0 ∷ (phi_names is ++ filter_map written_by (cons_option o (filter_map (instr_row m) is))))) (sym (phi_alone m i.result i.op q e))
           (away q.reg.0 (phi_is m i.result i.op q e).result, rest)
 
 -- ---- other numbers
@@ -123,7 +117,7 @@ module _ (n : Numbers) where
 
 -- ---- the numbers of registers
 
-abbrev pub name : LocalId → ℕ
+abbrev name : LocalId → ℕ
 name x = x.0
 
 module _ (f : Func) where
@@ -132,9 +126,7 @@ module _ (f : Func) where
 
   -- what is named has a number of its own
   one_number : (x y : ℕ) → Has (registers f) (record { 0 = x }) → number x ≡ number y → x ≡ y
-  one_number x y h same =
-      let at = element (registers f) (number x) (place_within name (registers f) (record { 0 = x }) h) in
-      sym (place_has name (registers f) x at.0 at.1) ∙ place_has name (registers f) y at.0 (ap (slice_get (registers f)) (sym same) ∙ at.1)
+  one_number x y h same = one_key name (registers f) x y (place_within name (registers f) (record { 0 = x }) h) same
 
 -- what no parameter is named has a number behind theirs
 past_params : (ps : List Param) (ys : List LocalId) (x : ℕ) → Each (λ (p : ℕ). p ≢ x) (map (λ (q : Param). q.name.0) ps) → length ps ≤ place name (map (λ (q : Param). q.name) ps ++ ys) x
@@ -215,5 +207,4 @@ module _ (m : Module) (proper : IsProper m) (valid : IsValid m) (g : ℕ) (f : F
       from : GoesFrom m f a 0 → ⊥
       from (c, at_c, (x, goes, to)) =
           let b = element f.blocks 0 is_proper.has_blocks in
-          let named : b.0.label ≡ x = same_name b.0.label x (place_has label f.blocks x.0 b.0 (ap (slice_get f.blocks) to ∙ b.1)) in
-          rules.entry c.end_place (b.0, b.1, (c, contains f.blocks c (has_at f.blocks a c at_c), refl, subst (Contains (targets c.end)) (sym named) (contains (targets c.end) x goes)))
+          rules.entry c.end_place (b.0, b.1, (c, contains f.blocks c (has_at f.blocks a c at_c), refl, subst (Contains (targets c.end)) (labelled f 0 b.0 x b.1 to) (contains (targets c.end) x goes)))

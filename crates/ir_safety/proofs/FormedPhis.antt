@@ -32,115 +32,66 @@ use Rattle.ir_core.proofs.SoundRules.{same_name}
 use Rattle.ir_safety.proofs.Safe.{NotFalse, and_so, in_turn}
 use Rattle.ir_safety.proofs.Labels.{phis_safe}
 use Rattle.ir_safety.proofs.Decided.{so, some_element, is_edge, same_operand}
-use Rattle.ir_safety.proofs.PlainEdges.{own_place, IsFrom, block_of, edge_there}
-use Rattle.ir_safety.proofs.PlainRows.{phi_is}
+use Rattle.ir_safety.proofs.PlainEdges.{block_of, edge_there}
+use Rattle.ir_safety.proofs.PlainSources.{does, step_agrees, step_fits, Source, source_of, pair_of, value_of, good_entries}
+use Rattle.ir_safety.proofs.Elements.{own_place, one_key}
 use Rattle.ir_safety.proofs.Once.{label, labels_once}
-use Rattle.ir_safety.proofs.FormedNumbers.{phi_row, written}
+use Rattle.ir_safety.proofs.FormedNumbers.{written}
 use Rattle.ir_safety.proofs.OperandMeanings.{of_meaning, operand_means}
 
--- ---- a phi of a block, with the phi of the module from which it comes
+-- ---- a phi of a block
 
-record Source (m : Module) (f : Func) (b : ℕ) (entries : List Entry) : Type 0 where
-  block : Block
-  found : slice_get f.blocks b ≡ Some block
-  instr : Instr
-  stands : Has block.code instr
-  ty : IrType
-  pairs : List Pair
-  is_phi : instr.op ≡ ops.Phi ty pairs
-  made : entries ≡ map (other_entry (numbers f)) (map (entry m ty) pairs)
+module _ (m : Module) (f : Func) (rules : IsValidFunc m f) (b : ℕ) (block : Block) (found : slice_get f.blocks b ≡ Some block) (entries : List Entry) (s : Source m f block entries) where
+  here : Has f.blocks block
+  here = has_at f.blocks b block found
 
-source_of : (m : Module) (f : Func) (b : ℕ) (k : FlatBlock) (q : Phi) → IsBlock (plain_body m f) b k → Has k.phis q → Source m f b q.entries
-source_of m f b k q at h = from (block_of m f b k at)
-  where
-    from : IsFrom m f b k → Source m f b q.entries
-    from (d, found, same) =
-        let o = map_source (other_phi (numbers f)) (block_rows m d).phis q (subst (λ (l : FlatBlock). Has l.phis q) (sym same) h) in
-        let i = has_source (phi_row m) d.code o.0 o.1 in
-        let s = phi_is m i.0.result i.0.op o.0 i.2 in
-        record {
-          block = d;
-          found = found;
-          instr = i.0;
-          stands = i.1;
-          ty = s.ty;
-          pairs = s.pairs;
-          is_phi = s.is_phi;
-          made = sym (ap (λ (p : Phi). p.entries) o.2) ∙ ap (map (other_entry (numbers f))) s.entries;
-        }
+  step : Has (steps f) (Does s.instr)
+  step = does f block here s.instr s.stands
 
-module _ (m : Module) (f : Func) (rules : IsValidFunc m f) (b : ℕ) (entries : List Entry) (s : Source m f b entries) where
-  abbrev made_of : Pair → Entry
-  made_of p = other_entry (numbers f) (entry m s.ty p)
+  good : NotFalse (HasGoodEntries m.types.defs f block.label s.ty s.pairs)
+  good = good_entries m f block entries s rules here
 
-  pair_of : (e : Entry) → Has entries e → (p : Pair) × Has s.pairs p × (made_of p ≡ e)
-  pair_of e h =
-      let x = map_source (other_entry (numbers f)) (map (entry m s.ty) s.pairs) e (subst (λ (es : List Entry). Has es e) s.made h) in
-      let p = map_source (entry m s.ty) s.pairs x.0 x.1 in
-      (p.0, p.1, ap (other_entry (numbers f)) p.2 ∙ x.2)
-
-  here : Has f.blocks s.block
-  here = has_at f.blocks b s.block s.found
-
-  does : Has (steps f) (Does s.instr)
-  does =
-      let step : Has (map (λ (j : Instr). Does j) s.block.code) (Does s.instr) = has_mapped (λ (j : Instr). Does j) s.block.code s.instr s.stands in
-      has_part block_steps f.blocks s.block (Does s.instr) here (has_left (map (λ (j : Instr). Does j) s.block.code) (Ends s.block ∷ []) (Does s.instr) step)
-
-  good_entries : NotFalse (HasGoodEntries m.types.defs f s.block.label s.ty s.pairs)
-  good_entries bad = rules.phis s.instr.place (s.block, s.instr, s.ty, s.pairs, contains f.blocks s.block here, contains s.block.code s.instr s.stands, refl, s.is_phi, bad)
-
-  -- a value of the phi has its type, and fits
-  agrees : NotFalse (StepAgrees m.types.defs f (Does s.instr))
-  agrees not = rules.types s.instr.place (inr (Does s.instr, contains (steps f) (Does s.instr) does, refl, not))
-
-  fits : NotFalse (All OperandFits (op_operands s.instr.op) × CountFits (Does s.instr))
-  fits not = rules.constants s.instr.place (Does s.instr, contains (steps f) (Does s.instr) does, refl, not)
-
-  value_of : (p : Pair) → Has s.pairs p → Contains (op_operands s.instr.op) (with_type s.ty p.value)
-  value_of p h =
-      let among = has_mapped (λ (q : Pair). with_type s.ty q.value) s.pairs p h in
-      contains (op_operands s.instr.op) (with_type s.ty p.value) (subst (λ (o : Op). Has (op_operands o) (with_type s.ty p.value)) (sym s.is_phi) among)
+  operand_of : (p : Pair) → Has s.pairs p → Contains (op_operands s.instr.op) (with_type s.ty p.value)
+  operand_of p h = contains (op_operands s.instr.op) (with_type s.ty p.value) (value_of m f block entries s p h)
 
   means : (p : Pair) → Has s.pairs p → NotFalse (operand m s.ty p.value ≡ of_meaning m (meaning m.types.defs s.ty p.value))
   means p h =
       let a : TypedOperand = with_type s.ty p.value in
-      and_so agrees (λ types. in_turn fits (λ words.
-      operand_means m f a (All-contains (OperandAgrees m.types.defs f) (op_operands s.instr.op) a types.0 (value_of p h)) (All-contains OperandFits (op_operands s.instr.op) a words.0 (value_of p h))))
+      and_so (step_agrees m f rules (Does s.instr) step) (λ types. in_turn (step_fits m f rules (Does s.instr) step) (λ words.
+      operand_means m f a (All-contains (OperandAgrees m.types.defs f) (op_operands s.instr.op) a types.0 (operand_of p h)) (All-contains OperandFits (op_operands s.instr.op) a words.0 (operand_of p h))))
 
   -- each entry comes from a block that leads to the phi's
-  from_before : (p : Pair) → Precedes f p.from s.block.label → IsEdge (plain_body m f) ((numbers f).block p.from.0) b
+  from_before : (p : Pair) → Precedes f p.from block.label → IsEdge (plain_body m f) ((numbers f).block p.from.0) b
   from_before p (c, has, named, goes) =
       let j = at_has f.blocks c (has_in f.blocks c has) in
       let own : (numbers f).block p.from.0 ≡ j.0 = ap (λ (x : LocalId). place label f.blocks x.0) (sym named) ∙ own_place label f.blocks j.0 c (labels_once m f rules) j.1 in
-      let to : (numbers f).block s.block.label.0 ≡ b = own_place label f.blocks b s.block (labels_once m f rules) s.found in
-      subst (λ (a : ℕ). IsEdge (plain_body m f) a b) (sym own) (edge_there m f j.0 b (c, j.1, (s.block.label, has_in (targets c.end) s.block.label goes, to)))
+      let to : (numbers f).block block.label.0 ≡ b = own_place label f.blocks b block (labels_once m f rules) found in
+      subst (λ (a : ℕ). IsEdge (plain_body m f) a b) (sym own) (edge_there m f j.0 b (c, j.1, (block.label, has_in (targets c.end) block.label goes, to)))
 
   only : (e : Entry) → Has entries e → IsEdge (plain_body m f) e.from.0 b
   only e h =
-      let p = pair_of e h in
+      let p = pair_of m f block entries s e h in
       subst (λ (x : Entry). IsEdge (plain_body m f) x.from.0 b) p.2
-      (so (is_edge (plain_body m f) ((numbers f).block p.0.from.0) b) (in_turn good_entries (λ good. from_before p.0 (good.only p.0 (contains s.pairs p.0 p.1)))))
+      (so (is_edge (plain_body m f) ((numbers f).block p.0.from.0) b) (in_turn good (λ g. from_before p.0 (g.only p.0 (contains s.pairs p.0 p.1)))))
 
   -- labels of blocks with one number are one
-  one_label : (p r : Pair) → Precedes f p.from s.block.label → (numbers f).block p.from.0 ≡ (numbers f).block r.from.0 → p.from ≡ r.from
+  one_label : (p r : Pair) → Precedes f p.from block.label → (numbers f).block p.from.0 ≡ (numbers f).block r.from.0 → p.from ≡ r.from
   one_label p r (c, has, named, goes) same =
       let lt : place label f.blocks p.from.0 < length f.blocks = subst (λ (x : LocalId). place label f.blocks x.0 < length f.blocks) named (place_within label f.blocks c (has_in f.blocks c has)) in
-      let d = element f.blocks (place label f.blocks p.from.0) lt in
-      same_name p.from r.from (sym (place_has label f.blocks p.from.0 d.0 d.1) ∙ place_has label f.blocks r.from.0 d.0 (ap (slice_get f.blocks) (sym same) ∙ d.1))
+      same_name p.from r.from (one_key label f.blocks p.from.0 r.from.0 lt same)
 
   -- and two from one block have one value
   equal_pairs : (p r : Pair) → Has s.pairs p → Has s.pairs r → (numbers f).block p.from.0 ≡ (numbers f).block r.from.0 → NotFalse (operand m s.ty p.value ≡ operand m s.ty r.value)
   equal_pairs p r hp hr same =
-      and_so good_entries (λ good. and_so (means p hp) (λ first. in_turn (means r hr) (λ second.
-      let from : p.from ≡ r.from = one_label p r (good.only p (contains s.pairs p hp)) same in
-      let value : meaning m.types.defs s.ty p.value ≡ meaning m.types.defs s.ty r.value = good.equal p r (contains s.pairs p hp) (contains s.pairs r hr) from in
+      and_so good (λ g. and_so (means p hp) (λ first. in_turn (means r hr) (λ second.
+      let from : p.from ≡ r.from = one_label p r (g.only p (contains s.pairs p hp)) same in
+      let value : meaning m.types.defs s.ty p.value ≡ meaning m.types.defs s.ty r.value = g.equal p r (contains s.pairs p hp) (contains s.pairs r hr) from in
       first ∙ ap (of_meaning m) value ∙ sym second)))
 
   equal : (e g : Entry) → Has entries e → Has entries g → e.from.0 ≡ g.from.0 → e.value ≡ g.value
   equal e g he hg same =
-      let p = pair_of e he in
-      let r = pair_of g hg in
+      let p = pair_of m f block entries s e he in
+      let r = pair_of m f block entries s g hg in
       let from : (numbers f).block p.0.from.0 ≡ (numbers f).block r.0.from.0 = ap (λ (x : Entry). x.from.0) p.2 ∙ same ∙ ap (λ (x : Entry). x.from.0) (sym r.2) in
       so (same_operand e.value g.value) (in_turn (equal_pairs p.0 r.0 p.1 r.1 from) (λ one. ap (λ (x : Entry). x.value) (sym p.2) ∙ ap (other_operand (numbers f)) one ∙ ap (λ (x : Entry). x.value) r.2))
 
@@ -152,11 +103,12 @@ module _ (m : Module) (proper : IsProper m) (valid : IsValid m) (g : ℕ) (f : F
 
   pub phi_formed : (b : ℕ) (k : FlatBlock) (q : Phi) → IsBlock (plain_body m f) b k → Contains k.phis q → IsPhi (plain_body m f) b q
   phi_formed b k q is h =
-      let s : Source m f b q.entries = source_of m f b k q is (has_in k.phis q h) in
+      let c = block_of m f b k is in
+      let s = source_of m f c.0 q (subst (λ (l : FlatBlock). Has l.phis q) (sym c.2) (has_in k.phis q h)) in
       record {
-        only = λ e he. only m f rules b q.entries s e (has_in q.entries e he);
+        only = λ e he. only m f rules b c.0 c.1 q.entries s e (has_in q.entries e he);
         each = each;
-        equal = λ e r he hr same. equal m f rules b q.entries s e r (has_in q.entries e he) (has_in q.entries r hr) same;
+        equal = λ e r he hr same. equal m f rules b c.0 c.1 q.entries s e r (has_in q.entries e he) (has_in q.entries r hr) same;
       }
     where
       each : (a : ℕ) → IsEdge (plain_body m f) a b → (e : Entry) × Contains q.entries e × (e.from.0 ≡ a)

@@ -54,7 +54,10 @@ use Rattle.ir_core.proofs.Lists.{Has, has_left, has_right, has_part, has_at, con
 use Rattle.ir_safety.proofs.Safe.{NotFalse, and_so, in_turn}
 use Rattle.ir_safety.proofs.Decided.{Decided, so, always, both, is_less, is_at_most, each_element, is_align, HasGoodSizes, HasFlatCases}
 use Rattle.ir_safety.proofs.Typed.{some_words, word_small}
-use Rattle.ir_safety.proofs.Registers.{mapped_twice}
+use Rattle.ir_safety.proofs.Elements.{mapped_twice}
+use Rattle.ir_safety.proofs.PlainEdges.{block_of}
+use Rattle.ir_safety.proofs.PlainRows.{call_is}
+use Rattle.ir_safety.proofs.PlainSources.{is_instr, does, ends, step_agrees, code_source}
 use Rattle.ir_safety.proofs.TypeSizes.{aligned_well, within_alignment, IsSmall, small_size, path_strides, HasSmallStride}
 
 -- ---- these facts can be decided
@@ -76,10 +79,6 @@ different_cases (flat_end.Switch a w cases other) h = (
 different_cases e h = tt
 
 -- ---- instructions
-
-either_way : (P : FlatInstr → Type 0) (t : Bool) (i j : FlatInstr) → P i → P j → P (if t then i else j)
-either_way P true i j p q = p
-either_way P false i j p q = q
 
 module _ (m : Module) (n : Numbers) where
   abbrev IsGoodRow : FlatInstr → Type 0
@@ -104,23 +103,10 @@ module _ (m : Module) (n : Numbers) where
   abbrev AreSmall : Op → Type 0
   AreSmall op = (t : IrType) → Has (op_sized op) t → IsSmall m.types.defs t
 
-  abbrev inner_call : Option RegId → SymId → List TypedOperand → FlatInstr
-  inner_call d s as' = flat.Call d (record { 0 = func_number m s }) (map (typed m) as')
-
   call_sizes : (d : Option RegId) (s : SymId) (as' : List TypedOperand) → length as' ≤ 8 → IsGoodRow (call m d s (map (typed m) as'))
-  call_sizes d s as' few =
-      let inner : FlatInstr = inner_call d s as' in
-      let exit : FlatInstr = flat.Exit (first (map (typed m) as')) in
-      let put : FlatInstr = flat.Put d (first (map (typed m) as')) in
-      let exits : FlatInstr = if bytes_eq (symbol_text m s) (codes "exit") then exit else inner in
-      let gets : FlatInstr = if bytes_eq (symbol_text m s) (codes "getchar") then flat.Get d else exits in
-      let puts : FlatInstr = if bytes_eq (symbol_text m s) (codes "putchar") then put else gets in
-      either_way IsGoodRow (is_defined m s) inner puts good
-      (either_way IsGoodRow (bytes_eq (symbol_text m s) (codes "putchar")) put gets tt
-      (either_way IsGoodRow (bytes_eq (symbol_text m s) (codes "getchar")) (flat.Get d) exits tt
-      (either_way IsGoodRow (bytes_eq (symbol_text m s) (codes "exit")) exit inner tt good)))
+  call_sizes d s as' few = call_is m d s (map (typed m) as') IsGoodRow good tt tt (λ e p q. tt)
     where
-      good : IsGoodRow (inner_call d s as')
+      good : IsGoodRow (flat.Call d (record { 0 = func_number m s }) (map (typed m) as'))
       good = let e = length-map (map (typed m) as') (other_operand n) ∙ length-map as' (typed m) in omega (arith, e, few)
 
   -- the size of an alloca, times its count
@@ -233,16 +219,13 @@ module _ (m : Module) (g : ℕ) (f : Func) (proper : IsProper m) (valid : IsVali
   is_func : Contains m.funcs f
   is_func = contains m.funcs f (has_at m.funcs g f found)
 
-  step_agrees : (s : Step) → Has (steps f) s → NotFalse (StepAgrees m.types.defs f s)
-  step_agrees s h wrong = rules.types (place_of s) (inr (s, contains (steps f) s h, refl, wrong))
-
   module _ (b : Block) (here : Has f.blocks b) where
     module _ (i : Instr) (inside : Has b.code i) where
       is_step : Has (steps f) (Does i)
-      is_step = has_part block_steps f.blocks b (Does i) here (has_left (map Does b.code) (Ends b ∷ []) (Does i) (has_mapped Does b.code i inside))
+      is_step = does f b here i inside
 
-      is_instr : Contains (instrs f) i
-      is_instr = contains (instrs f) i (has_part (λ (c : Block). c.code) f.blocks b i here inside)
+      stands : Contains (instrs f) i
+      stands = is_instr f b here i inside
 
       are_small : AreSmall m (numbers f) i.op
       are_small t h large =
@@ -251,12 +234,12 @@ module _ (m : Module) (g : ℕ) (f : Func) (proper : IsProper m) (valid : IsVali
 
       instr_sizes : NotFalse (IsGoodMade m (numbers f) (instruction m i.result i.op))
       instr_sizes =
-          and_so (step_agrees (Does i) is_step) (λ (agrees : StepAgrees m.types.defs f (Does i)).
-          in_turn (λ (wrong : PromisesWell m.types.defs i.op → ⊥). valid.alignments i.place (inr (f, is_func, (i, is_instr, refl, wrong)))) (λ (promise : PromisesWell m.types.defs i.op).
+          and_so (step_agrees m f rules (Does i) is_step) (λ (agrees : StepAgrees m.types.defs f (Does i)).
+          in_turn (λ (wrong : PromisesWell m.types.defs i.op → ⊥). valid.alignments i.place (inr (f, is_func, (i, stands, refl, wrong)))) (λ (promise : PromisesWell m.types.defs i.op).
           op_sizes m (numbers f) i.place i.result i.op are_small
-          (λ (much : MakesTooMuch m.types.defs i). valid.sizes i.place (inr (f, is_func, inr (i, is_instr, refl, much)))) promise (moves_scalar m (numbers f) f i.op agrees.0 agrees.1)
-          (All-contains (λ (j : Instr). HasFewArguments j.op) (instrs f) i proper_func.arguments is_instr)
-          (All-contains (λ (j : Instr). HasItsCount j.op) (instrs f) i proper_func.counts is_instr)))
+          (λ (much : MakesTooMuch m.types.defs i). valid.sizes i.place (inr (f, is_func, inr (i, stands, refl, much)))) promise (moves_scalar m (numbers f) f i.op agrees.0 agrees.1)
+          (All-contains (λ (j : Instr). HasFewArguments j.op) (instrs f) i proper_func.arguments stands)
+          (All-contains (λ (j : Instr). HasItsCount j.op) (instrs f) i proper_func.counts stands)))
 
       row_sizes : (row it : FlatInstr) → instruction m i.result i.op ≡ Some row → other_instr (numbers f) row ≡ it → HasGoodSizes it
       row_sizes row it made same =
@@ -264,30 +247,18 @@ module _ (m : Module) (g : ℕ) (f : Func) (proper : IsProper m) (valid : IsVali
 
     block_cases : HasFlatCases (other_end (numbers f) (terminator m b.end))
     block_cases =
-        let stands : Has (steps f) (Ends b) = has_part block_steps f.blocks b (Ends b) here (has_right (map Does b.code) (Ends b ∷ []) (Ends b) (inl refl)) in
         different_cases (other_end (numbers f) (terminator m b.end))
-        (and_so (step_agrees (Ends b) stands) (λ (agrees : StepAgrees m.types.defs f (Ends b)).
+        (and_so (step_agrees m f rules (Ends b) (ends f b here)) (λ (agrees : StepAgrees m.types.defs f (Ends b)).
         in_turn (λ (wrong : HasGoodCases m.types.defs b.end → ⊥). rules.cases b.end_place (b, contains f.blocks b here, refl, wrong))
         (λ (good : HasGoodCases m.types.defs b.end). end_cases m (numbers f) f b.end agrees.1 good)))
 
   -- ---- the plain body
 
-  abbrev row_of : Block → FlatBlock
-  row_of b = renumbered (numbers f) (block_rows m b)
-
-  block_of : (x : ℕ) (k : FlatBlock) → IsBlock (plain_body m f) x k → (b : Block) × Has f.blocks b × (row_of b ≡ k)
-  block_of x k at =
-      let r = mapped row_of (slice_get f.blocks x) k (sym (slice_get-map row_of f.blocks x) ∙ at) in
-      (r.0, has_at f.blocks x r.0 r.1, r.2)
-
   pub code_sizes : (x p : ℕ) (k : FlatBlock) (i : FlatInstr) → IsBlock (plain_body m f) x k → slice_get k.code p ≡ Some i → HasGoodSizes i
   code_sizes x p k i at e =
-      let b = block_of x k at in
-      let rows : List FlatInstr = (block_rows m b.0).code in
-      let h : Has (map (other_instr (numbers f)) rows) i = has_at (map (other_instr (numbers f)) rows) p i (ap (λ (l : FlatBlock). slice_get l.code p) b.2 ∙ e) in
-      let row = map_source (other_instr (numbers f)) rows i h in
-      let j = has_source (λ (j : Instr). instruction m j.result j.op) b.0.code row.0 row.1 in
-      row_sizes b.0 b.1 j.0 j.1 row.0 i j.2 row.2
+      let b = block_of m f x k at in
+      let s = code_source m f b.0 i (subst (λ (l : FlatBlock). Has l.code i) (sym b.2) (has_at k.code p i e)) in
+      row_sizes b.0 (has_at f.blocks x b.0 b.1) s.0 s.2 s.1 i s.3 s.4
 
   pub flat_cases : (x : ℕ) (k : FlatBlock) → IsBlock (plain_body m f) x k → HasFlatCases k.end
-  flat_cases x k at = let b = block_of x k at in subst (λ (l : FlatBlock). HasFlatCases l.end) b.2 (block_cases b.0 b.1)
+  flat_cases x k at = let b = block_of m f x k at in subst (λ (l : FlatBlock). HasFlatCases l.end) b.2 (block_cases b.0 (has_at f.blocks x b.0 b.1))

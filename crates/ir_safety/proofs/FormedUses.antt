@@ -43,13 +43,14 @@ use Rattle.ir_core.specs.ValidConsts.{IsVariable}
 use Rattle.ir_core.specs.ValidFunc.{IsParam, IsRegister, IsKnown}
 use Rattle.ir_core.proofs.Lists.{Has, Each, each_of, each_from, has_left, has_right, has_part, has_made, has_mapped, has_source, map_source, contains, has_in, all_at, place, place_within}
 use Rattle.ir_safety.proofs.Safe.{NotFalse, and_so, in_turn, true_too}
-use Rattle.ir_safety.proofs.Registers.{in_part}
-use Rattle.ir_safety.proofs.RowUses.{used_other, end_used_other, HasRow, has_row}
+use Rattle.ir_safety.proofs.Elements.{in_part, each_joined}
+use Rattle.ir_safety.proofs.Registers.{param_first}
+use Rattle.ir_safety.proofs.RowUses.{used_other, end_used_other, HasRow, result_row}
 use Rattle.ir_safety.proofs.Decided.{so, is_less, is_contained, either}
 use Rattle.ir_safety.proofs.PlainEdges.{row}
-use Rattle.ir_safety.proofs.PlainRows.{IsOneOf, row_is, end_among, phi_is}
-use Rattle.ir_safety.proofs.Once.{each_joined}
-use Rattle.ir_safety.proofs.FormedNumbers.{instr_row, phi_row, phi_names, row_names, written_names, name, all_named, writes_all}
+use Rattle.ir_safety.proofs.PlainRows.{instr_row, phi_row, IsOneOf, row_is, end_among}
+use Rattle.ir_safety.proofs.PlainSources.{does, ends, code_source, source_of, pair_of, value_of}
+use Rattle.ir_safety.proofs.FormedNumbers.{phi_names, row_names, written_names, all_named, writes_all}
 
 -- ---- lists
 
@@ -71,37 +72,22 @@ module _ (m : Module) (f : Func) (P : FlatOp → Type 0) (poison : P Poison)
   of_steps s hs os h = each_made P (other_operand (numbers f)) os (λ o k. of_step s hs o (each_of (IsOneOf m (operands_of s)) os o h k))
 
   module _ (b : Block) (here : Has f.blocks b) where
-    does : (i : Instr) → Has b.code i → Has (steps f) (Does i)
-    does i h = has_part block_steps f.blocks b (Does i) here (has_left (map (λ (j : Instr). Does j) b.code) (Ends b ∷ []) (Does i) (has_mapped (λ (j : Instr). Does j) b.code i h))
-
     by_end : Each P (used_at_end (row m f b).end)
-    by_end =
-        let ends : Has (steps f) (Ends b) = has_part block_steps f.blocks b (Ends b) here (has_right (map (λ (j : Instr). Does j) b.code) (Ends b ∷ []) (Ends b) (inl refl)) in
-        subst (Each P) (sym (end_used_other (numbers f) (terminator m b.end))) (of_steps (Ends b) ends (used_at_end (terminator m b.end)) (end_among m b.end))
+    by_end = subst (Each P) (sym (end_used_other (numbers f) (terminator m b.end))) (of_steps (Ends b) (ends f b here) (used_at_end (terminator m b.end)) (end_among m b.end))
 
     by_code : Each P (flat_map used_by (row m f b).code)
     by_code = each_in_parts P used_by (row m f b).code (λ z h.
-        let w = map_source (other_instr (numbers f)) (block_rows m b).code z h in
-        let i = has_source (instr_row m) b.code w.0 w.1 in
-        subst (λ (v : FlatInstr). Each P (used_by v)) w.2
-        (subst (Each P) (sym (used_other (numbers f) w.0)) (of_steps (Does i.0) (does i.0 i.1) (used_by w.0) (row_is m i.0.result i.0.op w.0 i.2).1)))
-
-    by_pairs : (i : Instr) → Has b.code i → (t : IrType) (ps : List Pair) → i.op ≡ ops.Phi t ps → Each P (map (λ (e : Entry). e.value) (map (other_entry (numbers f)) (map (entry m t) ps)))
-    by_pairs i hi t ps e =
-        each_made P (λ (x : Entry). x.value) (map (other_entry (numbers f)) (map (entry m t) ps)) (λ x h.
-        let y = map_source (other_entry (numbers f)) (map (entry m t) ps) x h in
-        let p = map_source (entry m t) ps y.0 y.1 in
-        let among : Has (op_operands i.op) (with_type t p.0.value) = subst (λ (o : Op). Has (op_operands o) (with_type t p.0.value)) (sym e) (has_mapped (λ (q : Pair). with_type t q.value) ps p.0 p.1) in
-        let made : other_entry (numbers f) (entry m t p.0) ≡ x = ap (other_entry (numbers f)) p.2 ∙ y.2 in
-        subst (λ (z : Entry). P z.value) made (each (Does i) (with_type t p.0.value) (does i hi) among))
+        let s = code_source m f b z h in
+        subst (λ (v : FlatInstr). Each P (used_by v)) s.4
+        (subst (Each P) (sym (used_other (numbers f) s.1)) (of_steps (Does s.0) (does f b here s.0 s.2) (used_by s.1) (row_is m s.0.result s.0.op s.1 s.3).1)))
 
     by_phis : Each P (flat_map (λ (q : Phi). map (λ (e : Entry). e.value) q.entries) (row m f b).phis)
-    by_phis = each_in_parts P (λ (q : Phi). map (λ (e : Entry). e.value) q.entries) (row m f b).phis (λ z h.
-        let q = map_source (other_phi (numbers f)) (block_rows m b).phis z h in
-        let i = has_source (phi_row m) b.code q.0 q.1 in
-        let s = phi_is m i.0.result i.0.op q.0 i.2 in
-        let made : map (other_entry (numbers f)) (map (entry m s.ty) s.pairs) ≡ z.entries = ap (map (other_entry (numbers f))) (sym s.entries) ∙ ap (λ (y : Phi). y.entries) q.2 in
-        subst (λ (es : List Entry). Each P (map (λ (e : Entry). e.value) es)) made (by_pairs i.0 i.1 s.ty s.pairs s.is_phi))
+    by_phis = each_in_parts P (λ (q : Phi). map (λ (e : Entry). e.value) q.entries) (row m f b).phis (λ q h.
+        let s = source_of m f b q h in
+        each_made P (λ (e : Entry). e.value) q.entries (λ e k.
+        let p = pair_of m f b q.entries s e k in
+        subst (λ (z : Entry). P z.value) p.2
+        (each (Does s.instr) (with_type s.ty p.0.value) (does f b here s.instr s.stands) (value_of m f b q.entries s p.0 p.1))))
 
     abbrev phi_values : List FlatOp
     phi_values = flat_map (λ (q : Phi). map (λ (e : Entry). e.value) q.entries) (row m f b).phis
@@ -119,17 +105,6 @@ module _ (m : Module) (f : Func) (P : FlatOp → Type 0) (poison : P Poison)
 
 -- ---- registers
 
--- a parameter has a number below theirs
-before_others : (ps : List Param) (ys : List LocalId) (q : Param) → Has ps q → place name (map (λ (p : Param). p.name) ps ++ ys) q.name.0 < length ps
-before_others [] ys q h = absurd h
-before_others (p ∷ ps) ys q h = by_test (p.name.0 == q.name.0) refl (λ k. before_others ps ys q k) h
-  where
-    by_test : (t : Bool) → (p.name.0 == q.name.0) ≡ t → (Has ps q → place name (map (λ (p : Param). p.name) ps ++ ys) q.name.0 < length ps) → (p ≡ q) ⊎ Has ps q
-        → place name (p.name ∷ (map (λ (p : Param). p.name) ps ++ ys)) q.name.0 < suc (length ps)
-    by_test true t rest k = rw t (omega arith)
-    by_test false t rest (inl same) = absurd (let k : p.name.0 ≡ q.name.0 = ap (λ (z : Param). z.name.0) same in grind (arith, nat_tests))
-    by_test false t rest (inr k) = rw t (let lt = rest k in omega (arith, lt))
-
 module _ (m : Module) (proper : IsProper m) (valid : IsValid m) (g : ℕ) (f : Func) (at : slice_get m.funcs g ≡ Some f) where
   rules : IsValidFunc m f
   rules = all_at (IsValidFunc m) m.funcs g f valid.each_func at
@@ -140,19 +115,10 @@ module _ (m : Module) (proper : IsProper m) (valid : IsValid m) (g : ℕ) (f : F
   known : (s : Step) (a : TypedOperand) → Has (steps f) s → Has (operands_of s) a → NotFalse (IsKnown m f a.value)
   known s a hs ha not = rules.references (place_of s) (s, contains (steps f) s hs, refl, inl (a, contains (operands_of s) a ha, not))
 
-  param_first : (x : LocalId) → IsParam f x → (numbers f).reg x.0 < length f.params
-  param_first x q = subst (λ (y : LocalId). (numbers f).reg y.0 < length f.params) q.2 (before_others f.params (flat_map results f.blocks) q.0 (has_in f.params q.0 q.1))
-
   -- a result is written by a phi or another instruction
   is_written : (x : LocalId) → IsRegister f x → NotFalse (Contains (all_writes (plain_body m f)) ((numbers f).reg x.0))
-  is_written x (i, stands, e) = in_turn there by_row
+  is_written x (i, stands, e) = in_turn (result_row m f is_proper rules i x stands e) by_row
     where
-      own : HasItsResult (record { place = i.place; result = Some x; op = i.op })
-      own = subst (λ (r : Option LocalId). HasItsResult (record { place = i.place; result = r; op = i.op })) e (All-contains HasItsResult (instrs f) i is_proper.results stands)
-
-      there : NotFalse (HasRow m x i.result i.op)
-      there = subst (λ (r : Option LocalId). NotFalse (HasRow m x r i.op)) (sym e) (has_row m i.place x i.op own (λ not. rules.calls i.place (i, stands, refl, not)))
-
       block : (b : Block) × Has f.blocks b × Has b.code i
       block = in_part (λ (b : Block). b.code) f.blocks i (has_in (instrs f) i stands)
 
@@ -196,7 +162,7 @@ module _ (m : Module) (proper : IsProper m) (valid : IsValid m) (g : ℕ) (f : F
       by_value t (operands.Local x) h = so (either (is_less ((numbers f).reg x.0) (length f.params)) (is_contained cases_eq (all_writes (plain_body m f)) ((numbers f).reg x.0))) (and_so h param_or_register)
         where
           param_or_register : IsParam f x ⊎ IsRegister f x → NotFalse (((numbers f).reg x.0 < length f.params) ⊎ Contains (all_writes (plain_body m f)) ((numbers f).reg x.0))
-          param_or_register (inl q) = true_too (inl (param_first x q))
+          param_or_register (inl q) = true_too (inl (param_first f x q))
           param_or_register (inr i) = in_turn (is_written x i) (λ w. inr w)
 
   -- ---- addresses

@@ -1,6 +1,11 @@
+pub mod Elements
 pub mod Safe
 pub mod Typed
 pub mod Named
+pub mod Once
+pub mod PlainEdges
+pub mod PlainRows
+pub mod PlainSources
 pub mod Effects
 pub mod Standing
 pub mod NeverStuck
@@ -14,14 +19,11 @@ pub mod RowUses
 pub mod Assigned
 pub mod ValidRuns
 pub mod Decided
-pub mod PlainEdges
-pub mod PlainRows
-pub mod Once
 pub mod FormedNumbers
 pub mod FormedUses
+pub mod TypeSizes
 pub mod OperandMeanings
 pub mod FormedPhis
-pub mod TypeSizes
 pub mod FormedSizes
 pub mod FormedBodies
 pub mod FewNumbers

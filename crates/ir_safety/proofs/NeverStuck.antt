@@ -26,7 +26,8 @@ use Rattle.ir_core.proofs.Lists.{Has, contains, has_in}
 use Rattle.ir_safety.proofs.Safe.{NotFalse, true_too, and_so, in_turn, each_too, IsSafeBody, IsSafe}
 use Rattle.ir_safety.proofs.Typed.{IsOf, IsWord, word_read}
 use Rattle.ir_safety.proofs.Effects.{IsThere, AreOf, Callee, MayDo, MayEnd, CallsOne, value_there, effect_may, end_may}
-use Rattle.ir_safety.proofs.Standing.{HasReg, IsAwaited, one_at, set_has, TakesValue, phis_taken, entry_first, argument_at, taken_at, Stands, StandsWell, AreWaiting, Runs, IsFine, goes_on, is_over, set_stands, none_stands, call_stands, result_fine}
+use Rattle.ir_safety.proofs.Elements.{none_is_none, same_some, one_at}
+use Rattle.ir_safety.proofs.Standing.{HasReg, IsAwaited, set_has, TakesValue, phis_taken, entry_first, argument_at, taken_at, Stands, StandsWell, AreWaiting, Runs, IsFine, goes_on, is_over, set_stands, none_stands, call_stands, result_fine}
 
 going_not_stuck : Going ≡ Stuck → ⊥
 going_not_stuck e = cc
@@ -42,12 +43,6 @@ undefined_not_stuck e = cc
 
 undefined_not_going : Undefined ≡ Going → ⊥
 undefined_not_going e = cc
-
-none_is_none : {A : Type 0} (x : A) → None ≡ Some x → ⊥
-none_is_none x e = cc
-
-same_some : {A : Type 0} (x y : A) → Some x ≡ Some y → x ≡ y
-same_some x y e = cc
 
 points : (t : Scalar) (b : ℕ) → t ≡ Pointer → IsOf t (At b 0)
 points t b e = subst (λ (k : Scalar). IsOf k (At b 0)) (sym e) refl

@@ -13,17 +13,14 @@ use Rattle.ir_core.specs.declared.func.Instr.{Instr}
 use Rattle.ir_core.specs.declared.func.Block.{Block}
 use Rattle.ir_core.specs.declared.func.Func.{Func}
 use Rattle.ir_core.specs.declared.func.Param.{Param}
+use Rattle.ir_core.specs.Plain.{results, registers}
 use Rattle.ir_core.specs.Valid.{IsValidFunc}
 use Rattle.ir_core.specs.ValidFunc.{LocalAt, instr_local, block_locals_at, locals_at}
 use Rattle.ir_core.proofs.Lists.{Has, Each, Apart, each_of, each_from, has_part, apart_left, apart_right, apart_across, apart_mapped, mapped_parts, map_source}
 use Rattle.ir_core.proofs.SoundRules.{key, same_name}
-use Rattle.ir_safety.proofs.Registers.{in_part, mapped_twice}
+use Rattle.ir_safety.proofs.Elements.{each_joined, in_part, mapped_twice}
 
 -- ---- lists
-
-pub each_joined : {A : Type 0} (P : A → Type 0) (xs ys : List A) → Each P xs → Each P ys → Each P (xs ++ ys)
-each_joined P [] ys p q = q
-each_joined P (x ∷ xs) ys p q = (p.0, each_joined P xs ys p.1 q)
 
 each_between : {A : Type 0} (P : A → Type 0) (xs ys : List A) (x : A) → Each P (xs ++ ys) → P x → Each P (xs ++ x ∷ ys)
 each_between P [] ys x e p = (p, e)
@@ -118,3 +115,24 @@ module _ (m : Module) (f : Func) (rules : IsValidFunc m f) where
       let across = apart_across (param_names f) (flat_map own_names f.blocks) names_once in
       let away : Each (λ (y : ℕ). p ≢ y) (flat_map own_names f.blocks) = each_of (λ (v : ℕ). Each (λ (y : ℕ). v ≢ y) (flat_map own_names f.blocks)) (param_names f) p across k in
       each_of (λ (y : ℕ). p ≢ y) (flat_map own_names f.blocks) x away h)
+
+  -- and no two registers have one name
+  pub registers_once : Apart (map (λ (x : LocalId). x.0) (registers f))
+  registers_once =
+      subst Apart (sym same)
+      (apart_joined (param_names f) written (apart_left (param_names f) (flat_map own_names f.blocks) names_once)
+      (apart_parts (λ (b : Block). result_names b.code) own_names (λ b a. a.1) (λ b y h. inr h) f.blocks blocks_once) across)
+    where
+      written : List ℕ
+      written = flat_map (λ (b : Block). result_names b.code) f.blocks
+
+      across : (x : ℕ) → Has (param_names f) x → Each (λ y. x ≢ y) written
+      across x h = each_from (λ (y : ℕ). x ≢ y) written (λ y k.
+          let b = in_part (λ (b : Block). result_names b.code) f.blocks y k in
+          each_of (λ (p : ℕ). p ≢ y) (param_names f) x (no_param y (has_part own_names f.blocks b.0 y b.1 (inr b.2))) h)
+
+      same : map (λ (x : LocalId). x.0) (registers f) ≡ param_names f ++ written
+      same =
+          map-append (λ (x : LocalId). x.0) (map (λ (q : Param). q.name) f.params) (flat_map results f.blocks)
+          ∙ ap (λ xs. xs ++ map (λ (x : LocalId). x.0) (flat_map results f.blocks)) (mapped_twice (λ (x : LocalId). x.0) (λ (q : Param). q.name) f.params)
+          ∙ ap (λ xs. param_names f ++ xs) (mapped_parts (λ (x : LocalId). x.0) results (λ (b : Block). result_names b.code) (λ b. refl) f.blocks)

@@ -12,7 +12,7 @@ use Rattle.ir_core.specs.declared.flat.Term.{Term}
 use Rattle.ir_core.specs.declared.ty.TypeDef.{TypeDef}
 use Rattle.ir_core.specs.declared.ty.IrType.{IrType, Void, Int, Ptr, Array', Struct', Named, end_of-IrType, more_of-IrType, out-IrType}
 use Rattle.ir_core.specs.declared.ty.IrType.TheOpen.{IrType-F}
-use Rattle.ir_core.specs.declared.ty.IrType.TheVariants.{outs-Void, outs-Int, outs-Ptr, outs-Array, outs-Struct', outs-Named}
+use Rattle.ir_core.specs.declared.ty.IrType.TheVariants.{outs-Void, outs-Int, outs-Ptr, outs-Struct', outs-Named}
 use Rattle.ir_core.specs.declared.constant.Const.{Const}
 use Rattle.ir_core.specs.declared.constant.Const as consts
 use Rattle.ir_core.specs.declared.constant.TypedCount.{TypedCount}
@@ -30,25 +30,22 @@ use Rattle.ir_core.specs.ValidConsts.{plain, IsInteger, Fits, FitsType, const_in
 use Rattle.ir_core.specs.ValidConsts.{field_number as field_of_count}
 use Rattle.ir_core.specs.ValidOps.{IsScalar, ConstAgrees, ValueAgrees, OperandAgrees, ConstFits, OperandFits}
 use Rattle.ir_core.proofs.Lists.{Each}
+use Rattle.ir_safety.proofs.TypeSizes.{array_out}
 
 -- ---- one level of a type
-
-array_level : (n : ℕ) (m : _) (item : IrType) → out-IrType (Array' n m (more_of-IrType item end_of-IrType)) ≡ IrType-F.Array n item
-unfolding Rattle.ir_core.specs.declared.ty.IrType.TheBlock.hidden-the_row-IrType-0 denote.Hole.Carrier.hidden
-array_level n m item = outs-Array n item
 
 -- from an array an index leads to its elements' type
 item_of : (t : IrType) (n : ℕ) (u : IrType) → out-IrType t ≡ IrType-F.Array n u → element t ≡ Some u
 item_of Void n u e = absurd (let clash : IrType-F.Void ≡ IrType-F.Array n u = sym outs-Void ∙ e in cc)
 item_of (Int w) n u e = absurd (let clash : IrType-F.Int w ≡ IrType-F.Array n u = sym (outs-Int w) ∙ e in cc)
 item_of Ptr n u e = absurd (let clash : IrType-F.Ptr ≡ IrType-F.Array n u = sym outs-Ptr ∙ e in cc)
-item_of (Array' k m (more_of-IrType item end_of-IrType)) n u e = let same : IrType-F.Array k item ≡ IrType-F.Array n u = sym (array_level k m item) ∙ e in let one : item ≡ u = cc in ap Some one
+item_of (Array' k m (more_of-IrType item end_of-IrType)) n u e = let same : IrType-F.Array k item ≡ IrType-F.Array n u = sym (array_out k m item) ∙ e in let one : item ≡ u = cc in ap Some one
 item_of (Struct' m fields) n u e = absurd (let clash = sym (outs-Struct' m fields) ∙ e in cc)
 item_of (Named x) n u e = absurd (let clash : IrType-F.Named x ≡ IrType-F.Array n u = sym (outs-Named x) ∙ e in cc)
 
 -- what has fields is no array
 no_item : (t : IrType) (k : ℕ) (u : IrType) → slice_get (types_in (out-IrType t)) k ≡ Some u → element t ≡ None
-no_item (Array' n m (more_of-IrType item end_of-IrType)) k u e = absurd (let clash : None ≡ Some u = sym (ap (λ (l : IrType-F IrType). slice_get (types_in l) k) (array_level n m item)) ∙ e in cc)
+no_item (Array' n m (more_of-IrType item end_of-IrType)) k u e = absurd (let clash : None ≡ Some u = sym (ap (λ (l : IrType-F IrType). slice_get (types_in l) k) (array_out n m item)) ∙ e in cc)
 no_item Void k u e = refl
 no_item (Int w) k u e = refl
 no_item Ptr k u e = refl

@@ -1,5 +1,4 @@
--- The blocks and edges of a plain body are those of its function, and where labels stand once the number of a block's label is its
--- position.
+-- The blocks and edges of a plain body are those of its function.
 use Rattle.std.proofs.Common.{◌≡◌, ◌≢◌, inl, inr, ℕ, zero, suc, List, [], ◌∷◌, ◌++◌, map, Some, slice_get, refl, sym, ap, ◌∙◌, subst}
 use Rattle.std.specs.Option.{option_map}
 use Rattle.std.proofs.lemmas.Option.{slice_get-map}
@@ -17,26 +16,8 @@ use Rattle.ir_core.specs.Formed as formed
 use Rattle.ir_core.specs.Formed.{IsBlock, IsEdge}
 use Rattle.ir_core.specs.Instructions.{switch_case, terminator, block_rows}
 use Rattle.ir_core.specs.Plain.{Numbers, other_case, other_end, renumbered, numbers, plain_body}
+use Rattle.ir_core.proofs.SoundRules.{same_name}
 use Rattle.ir_core.proofs.Lists.{Has, Apart, each_of, has_left, has_right, has_at, has_mapped, contains, has_in, element, mapped, place, place_within, place_has}
-
--- ---- places of keys that stand once
-
-module _ {A : Type 0} (key : A → ℕ) where
-  one_place : (xs : List A) (i j : ℕ) (a b : A) → Apart (map key xs) → slice_get xs i ≡ Some a → slice_get xs j ≡ Some b → key a ≡ key b → i ≡ j
-  one_place [] i j a b once p q same = cc
-  one_place (x ∷ xs) zero zero a b once p q same = refl
-  one_place (x ∷ xs) (suc i) (suc j) a b once p q same = ap suc (one_place xs i j a b once.1 p q same)
-  one_place (x ∷ xs) zero (suc j) a b once p q same =
-      let first : x ≡ a = cc in
-      absurd (each_of (λ (y : ℕ). key x ≢ y) (map key xs) (key b) once.0 (has_mapped key xs b (has_at xs j b q)) (ap key first ∙ same))
-  one_place (x ∷ xs) (suc i) zero a b once p q same =
-      let first : x ≡ b = cc in
-      absurd (each_of (λ (y : ℕ). key x ≢ y) (map key xs) (key a) once.0 (has_mapped key xs a (has_at xs i a p)) (ap key first ∙ sym same))
-
-  pub own_place : (xs : List A) (i : ℕ) (a : A) → Apart (map key xs) → slice_get xs i ≡ Some a → place key xs (key a) ≡ i
-  own_place xs i a once e =
-      let first = element xs (place key xs (key a)) (place_within key xs a (has_at xs i a e)) in
-      one_place xs (place key xs (key a)) i first.0 a once first.1 e (place_has key xs (key a) first.0 first.1)
 
 -- ---- targets
 
@@ -90,6 +71,10 @@ module _ (m : Module) (n : Numbers) where
   target_there ends.Unreachable x h = absurd h
 
 -- ---- blocks and edges
+
+-- a label with the number of a block is its own
+pub labelled : (f : Func) (n : ℕ) (b : Block) (x : LocalId) → slice_get f.blocks n ≡ Some b → (numbers f).block x.0 ≡ n → x ≡ b.label
+labelled f n b x at is = same_name x b.label (sym (place_has (λ (c : Block). c.label.0) f.blocks x.0 b (ap (slice_get f.blocks) is ∙ at)))
 
 module _ (m : Module) (f : Func) where
   abbrev pub row : Block → FlatBlock

@@ -1,6 +1,6 @@
 -- What the rows of a function's instructions write and use: the results that the instructions name, and their operands with their
 -- types.
-use Rattle.std.proofs.Common.{◌≡◌, ◌⊎◌, inl, inr, ℕ, bytes_eq, codes, List, [], ◌∷◌, map, Option, Some, None, refl, sym, subst}
+use Rattle.std.proofs.Common.{◌≡◌, ◌⊎◌, inl, inr, ℕ, Bool, false, bytes_eq, codes, List, [], ◌∷◌, map, Option, Some, None, refl, sym, subst}
 use Rattle.std.specs.Option.{option_map}
 use Rattle.std.proofs.lemmas.Bool.{cond_both}
 use Rattle.oi_base.specs.declared.ids.RegId.{RegId}
@@ -21,6 +21,7 @@ use Rattle.ir_core.specs.declared.op.Op.{Op}
 use Rattle.ir_core.specs.declared.op.Op.TheVariants as ops
 use Rattle.ir_core.specs.declared.op.End.{End}
 use Rattle.ir_core.specs.declared.op.End.TheVariants as ends
+use Rattle.ir_core.specs.declared.func.Instr.{Instr}
 use Rattle.ir_core.specs.Parts.{is_defined}
 use Rattle.ir_core.specs.Stands.{op_operands, end_operands, symbol_text}
 use Rattle.ir_core.specs.Stands.{typed as with_type}
@@ -30,13 +31,13 @@ use Rattle.ir_core.specs.Formed.{of_result, written_by, used_by, used_at_end}
 use Rattle.ir_core.proofs.Lists.{Has, Each, each_map}
 
 -- a call is one of four instructions
-call_is : (m : Module) (d : Option RegId) (s : SymId) (args : List FlatOp) (Is : FlatInstr → Type 0) → Is (flat.Call d (record { 0 = func_number m s }) args) → Is (flat.Put d (first args)) → Is (flat.Get d)
-    → Is (flat.Exit (first args)) → Is (call m d s args)
+pub call_is : (m : Module) (d : Option RegId) (s : SymId) (args : List FlatOp) (Is : FlatInstr → Type 0) → Is (flat.Call d (record { 0 = func_number m s }) args) → Is (flat.Put d (first args)) → Is (flat.Get d)
+    → (is_defined m s ≡ false → bytes_eq (symbol_text m s) (codes "putchar") ≡ false → bytes_eq (symbol_text m s) (codes "getchar") ≡ false → Is (flat.Exit (first args))) → Is (call m d s args)
 call_is m d s args Is inner put get exit =
     cond_both (is_defined m s) _ _ Is (λ e. inner) (λ e.
-    cond_both (bytes_eq (symbol_text m s) (codes "putchar")) _ _ Is (λ e. put) (λ e.
-    cond_both (bytes_eq (symbol_text m s) (codes "getchar")) _ _ Is (λ e. get) (λ e.
-    cond_both (bytes_eq (symbol_text m s) (codes "exit")) _ _ Is (λ e. exit) (λ e. inner))))
+    cond_both (bytes_eq (symbol_text m s) (codes "putchar")) _ _ Is (λ p. put) (λ p.
+    cond_both (bytes_eq (symbol_text m s) (codes "getchar")) _ _ Is (λ q. get) (λ q.
+    cond_both (bytes_eq (symbol_text m s) (codes "exit")) _ _ Is (λ x. exit e p q) (λ x. inner))))
 
 -- the result that is written, if one is, is the one that is named
 abbrev OfResult : Option LocalId → Option ℕ → Type 0
@@ -48,6 +49,12 @@ of_register None = tt
 of_register (Some x) = refl
 
 module _ (m : Module) where
+  abbrev pub instr_row : Instr → Option FlatInstr
+  instr_row i = instruction m i.result i.op
+
+  abbrev pub phi_row : Instr → Option Phi
+  phi_row i = phi m i.result i.op
+
   -- an operand of a row is one of some operands, or poison where there are too few arguments
   abbrev pub IsOneOf : List TypedOperand → FlatOp → Type 0
   IsOneOf as' o = (o ≡ Poison) ⊎ ((a : TypedOperand) × Has as' a × (typed m a ≡ o))
@@ -106,7 +113,7 @@ module _ (m : Module) where
 
   call_row : (r : Option LocalId) (t : IrType) (s : SymId) (as' : List TypedOperand) → IsRow r (ops.Call t s as') (call m (option_map register r) s (map (typed m) as'))
   call_row r t s as' =
-      call_is m (option_map register r) s (map (typed m) as') (IsRow r (ops.Call t s as')) (of_register r, all_among as') (of_register r, first_among as') (of_register r, tt) (tt, first_among as')
+      call_is m (option_map register r) s (map (typed m) as') (IsRow r (ops.Call t s as')) (of_register r, all_among as') (of_register r, first_among as') (of_register r, tt) (λ e p q. (tt, first_among as'))
 
   rows : (r : Option LocalId) (op : Op) → HasRow r op (instruction m r op)
   rows (Some d) (ops.Bin op t a b) = (refl, two (with_type t a) (with_type t b))

@@ -26,40 +26,19 @@ use Rattle.ir_core.specs.declared.module.Module.{Module}
 use Rattle.ir_core.specs.Words.{bit}
 use Rattle.ir_core.specs.Constants.{scalar_of, zero_of, number_word, constant}
 use Rattle.ir_core.specs.Instructions.{operand, typed}
-use Rattle.ir_core.specs.Plain.{other_operand, is_local, numbers, registers}
+use Rattle.ir_core.specs.Plain.{other_operand, is_local, numbers, results, registers}
 use Rattle.ir_core.specs.Formed.{HasType}
 use Rattle.ir_core.specs.Parts.{instrs}
 use Rattle.ir_core.specs.Valid.{IsValidFunc}
-use Rattle.ir_core.specs.ValidFunc.{LocalAt, instr_local, block_locals_at, locals_at}
+use Rattle.ir_core.specs.ValidFunc.{IsParam}
 use Rattle.ir_core.specs.ValidOps.{op_result, LocalHasType, ConstAgrees, ValueAgrees, OperandAgrees, ConstFits, OperandFits}
-use Rattle.ir_core.proofs.Lists.{Has, Each, Apart, each_of, has_left, has_right, has_part, place, has_in, has_mapped, has_made, apart_mapped, mapped_parts}
-use Rattle.ir_core.proofs.SoundRules.{key, same_name}
+use Rattle.ir_core.proofs.Lists.{Has, Apart, at_has, has_left, has_right, has_part, place, has_in, has_mapped, has_made, mapped_parts}
 use Rattle.ir_safety.specs.PlainTypes.{register_types, func_types, func_type}
 use Rattle.ir_safety.proofs.Typed.{some_words, word_small}
+use Rattle.ir_safety.proofs.Elements.{in_part, mapped_twice, own_place}
+use Rattle.ir_safety.proofs.Once.{registers_once}
 
 -- ---- lists
-
-split : {A : Type 0} (xs ys : List A) (x : A) → Has (xs ++ ys) x → Has xs x ⊎ Has ys x
-split [] ys x h = inr h
-split (z ∷ zs) ys x (inl e) = inl (inl e)
-split (z ∷ zs) ys x (inr h) = later (split zs ys x h)
-  where
-    later : Has zs x ⊎ Has ys x → Has (z ∷ zs) x ⊎ Has ys x
-    later (inl g) = inl (inr g)
-    later (inr g) = inr g
-
--- an element of one of the parts
-pub in_part : {A B : Type 0} (f : A → List B) (xs : List A) (y : B) → Has (flat_map f xs) y → (x : A) × Has xs x × Has (f x) y
-in_part f [] y h = absurd h
-in_part f (z ∷ zs) y h = by_part (split (f z) (flat_map f zs) y h) (λ g. in_part f zs y g)
-  where
-    by_part : Has (f z) y ⊎ Has (flat_map f zs) y → (Has (flat_map f zs) y → (x : _) × Has zs x × Has (f x) y) → (x : _) × Has (z ∷ zs) x × Has (f x) y
-    by_part (inl g) rest = (z, inl refl, g)
-    by_part (inr g) rest = let r = rest g in (r.0, inr r.1, r.2)
-
-pub mapped_twice : {A B C : Type 0} (g : B → C) (f : A → B) (xs : List A) → map g (map f xs) ≡ map (λ x. g (f x)) xs
-mapped_twice g f [] = refl
-mapped_twice g f (x ∷ xs) = ap (λ ys. g (f x) ∷ ys) (mapped_twice g f xs)
 
 mapped_first : {B C : Type 0} (g : B → C) (o : Option B) (ys : List B) → map g (cons_option o ys) ≡ cons_option (option_map g o) (map g ys)
 mapped_first g None ys = refl
@@ -68,37 +47,6 @@ mapped_first g (Some y) ys = refl
 mapped_made : {A B C : Type 0} (g : B → C) (f : A → Option B) (h : A → Option C) → ((x : A) → option_map g (f x) ≡ h x) → (xs : List A) → map g (filter_map f xs) ≡ filter_map h xs
 mapped_made g f h e [] = refl
 mapped_made g f h e (x ∷ xs) = mapped_first g (f x) (filter_map f xs) ∙ ap (λ o. cons_option o (map g (filter_map f xs))) (e x) ∙ ap (λ ys. cons_option (h x) ys) (mapped_made g f h e xs)
-
--- ---- lists of which numbers are left out
-
--- the first list is the second without some of its numbers
-data Thin : List ℕ → List ℕ → Type 0 where
-  none : Thin [] []
-  over : (y : ℕ) (xs ys : List ℕ) → Thin xs ys → Thin xs (y ∷ ys)
-  both : (x : ℕ) (xs ys : List ℕ) → Thin xs ys → Thin (x ∷ xs) (x ∷ ys)
-
-all_of : (xs : List ℕ) → Thin xs xs
-all_of [] = none
-all_of (x ∷ xs) = both x xs xs (all_of xs)
-
-each_thin : (P : ℕ → Type 0) (xs ys : List ℕ) → Thin xs ys → Each P ys → Each P xs
-each_thin P _ _ none e = e
-each_thin P _ _ (over y xs ys t) e = each_thin P xs ys t e.1
-each_thin P _ _ (both x xs ys t) e = (e.0, each_thin P xs ys t e.1)
-
-apart_thin : (xs ys : List ℕ) → Thin xs ys → Apart ys → Apart xs
-apart_thin _ _ none a = a
-apart_thin _ _ (over y xs ys t) a = apart_thin xs ys t a.1
-apart_thin _ _ (both x xs ys t) a = (each_thin (λ y. x ≢ y) xs ys t a.0, apart_thin xs ys t a.1)
-
-thin_joined : (xs ys as' bs : List ℕ) → Thin xs ys → Thin as' bs → Thin (xs ++ as') (ys ++ bs)
-thin_joined _ _ as' bs none u = u
-thin_joined _ _ as' bs (over y xs ys t) u = over y (xs ++ as') (ys ++ bs) (thin_joined xs ys as' bs t u)
-thin_joined _ _ as' bs (both x xs ys t) u = both x (xs ++ as') (ys ++ bs) (thin_joined xs ys as' bs t u)
-
-thin_parts : {A : Type 0} (f g : A → List ℕ) → ((x : A) → Thin (f x) (g x)) → (xs : List A) → Thin (flat_map f xs) (flat_map g xs)
-thin_parts f g t [] = none
-thin_parts f g t (x ∷ xs) = thin_joined (f x) (g x) (flat_map f xs) (flat_map g xs) (t x) (thin_parts f g t xs)
 
 -- ---- registers with their types
 
@@ -151,46 +99,9 @@ names_told f = told (λ (x : Register). x.name) (λ (q : Param). q.name) (λ (i 
 types_told : (f : Func) → map (λ (x : Register). x.ty) (all_registers f) ≡ register_types f
 types_told f = told (λ (x : Register). x.ty) (λ (q : Param). q.ty) (λ (i : Instr). option_map (λ (x : LocalId). op_result i.op) i.result) (λ q. refl) (λ i. type_of_result i.result (op_result i.op)) f
 
--- ---- no two have one name
-
-abbrev param_at : Func → Param → LocalAt
-param_at f q = record { name = q.name; place = f.place }
-
-first_name : (i : Instr) (r : Option LocalId) → i.result ≡ r → (xs : List Register) → map number (cons_option (of_instr i) xs) ≡ map key (instr_local i) ++ map number xs
-first_name i None e xs = rw e refl
-first_name i (Some x) e xs = rw e refl
-
-code_names : (code : List Instr) → map number (filter_map of_instr code) ≡ map key (flat_map instr_local code)
-code_names [] = refl
-code_names (i ∷ is) =
-    first_name i i.result refl (filter_map of_instr is) ∙ ap (λ ys. map key (instr_local i) ++ ys) (code_names is) ∙ sym (map-append key (instr_local i) (flat_map instr_local is))
-
-block_names : (b : Block) → Thin (map number (of_block b)) (map key (block_locals_at b))
-block_names b = over b.label.0 _ _ (subst (Thin (map number (of_block b))) (code_names b.code) (all_of (map number (of_block b))))
-
-abbrev param_numbers : Func → List ℕ
-param_numbers f = map (λ (q : Param). q.name.0) f.params
-
-some_names : (f : Func) → Thin (map number (all_registers f)) (map key (locals_at f))
-some_names f = subst (λ xs. Thin xs (map key (locals_at f))) (sym old) (subst (Thin (param_numbers f ++ flat_map (λ (b : Block). map number (of_block b)) f.blocks)) (sym new) thin)
-  where
-    old : map number (all_registers f) ≡ param_numbers f ++ flat_map (λ (b : Block). map number (of_block b)) f.blocks
-    old =
-        map-append number (map of_param f.params) (flat_map of_block f.blocks)
-        ∙ ap (λ xs. xs ++ map number (flat_map of_block f.blocks)) (mapped_twice number of_param f.params)
-        ∙ ap (λ xs. param_numbers f ++ xs) (mapped_parts number of_block (λ (b : Block). map number (of_block b)) (λ b. refl) f.blocks)
-
-    new : map key (locals_at f) ≡ param_numbers f ++ flat_map (λ (b : Block). map key (block_locals_at b)) f.blocks
-    new =
-        map-append key (map (param_at f) f.params) (flat_map block_locals_at f.blocks)
-        ∙ ap (λ xs. xs ++ map key (flat_map block_locals_at f.blocks)) (mapped_twice key (param_at f) f.params)
-        ∙ ap (λ xs. param_numbers f ++ xs) (mapped_parts key block_locals_at (λ (b : Block). map key (block_locals_at b)) (λ b. refl) f.blocks)
-
-    thin : Thin (param_numbers f ++ flat_map (λ (b : Block). map number (of_block b)) f.blocks) (param_numbers f ++ flat_map (λ (b : Block). map key (block_locals_at b)) f.blocks)
-    thin = thin_joined (param_numbers f) (param_numbers f) _ _ (all_of (param_numbers f)) (thin_parts (λ (b : Block). map number (of_block b)) (λ (b : Block). map key (block_locals_at b)) block_names f.blocks)
-
+-- no two have one name
 named_once : (m : Module) (f : Func) → IsValidFunc m f → Apart (map number (all_registers f))
-named_once m f valid = apart_thin (map number (all_registers f)) (map key (locals_at f)) (some_names f) (apart_mapped key (locals_at f) (λ i j a b lt ei ej same. valid.names b.place (i, j, a, b, lt, ei, ej, same_name a.name b.name same, refl)))
+named_once m f valid = subst Apart (ap (map (λ (x : LocalId). x.0)) (sym (names_told f)) ∙ mapped_twice (λ (x : LocalId). x.0) (λ (x : Register). x.name) (all_registers f)) (registers_once m f valid)
 
 -- ---- the type of each
 
@@ -200,21 +111,7 @@ same_place (r ∷ rs) x = ap (λ n. cond (not (number r == x)) (1 + n) 0) (same_
 
 -- where no two have one name, each stands at the first place of its name
 found : (rs : List Register) (r : Register) → Apart (map number rs) → Has rs r → slice_get rs (place number rs (number r)) ≡ Some r
-found [] r a h = absurd h
-found (s ∷ rs) r a h = by_test (number s == number r) refl (λ g. found rs r a.1 g) h
-  where
-    at : (b : Bool) → (number s == number r) ≡ b → slice_get (s ∷ rs) (cond (not b) (1 + place number rs (number r)) 0) ≡ Some r → slice_get (s ∷ rs) (place number (s ∷ rs) (number r)) ≡ Some r
-    at b e h = subst (λ c. slice_get (s ∷ rs) (cond (not c) (1 + place number rs (number r)) 0) ≡ Some r) (sym e) h
-
-    by_test : (b : Bool) → (number s == number r) ≡ b → (Has rs r → slice_get rs (place number rs (number r)) ≡ Some r) → (s ≡ r) ⊎ Has rs r → slice_get (s ∷ rs) (place number (s ∷ rs) (number r)) ≡ Some r
-    by_test true e rest (inl same) = at true e (ap Some same)
-    by_test true e rest (inr g) =
-        let k : number s ≡ number r = grind (arith, nat_tests) in
-        absurd (each_of (λ y. number s ≢ y) (map number rs) (number r) a.0 (has_mapped number rs r g) k)
-    by_test false e rest (inl same) = absurd (let k : number s ≡ number r = ap number same in grind (arith, nat_tests))
-    by_test false e rest (inr g) =
-        let n : suc (place number rs (number r)) ≡ 1 + place number rs (number r) = omega arith in
-        at false e (subst (λ k. slice_get (s ∷ rs) k ≡ Some r) n (rest g))
+found rs r once h = let at = at_has rs r h in ap (slice_get rs) (own_place number rs at.0 r once at.1) ∙ at.1
 
 register_type : (m : Module) (f : Func) → IsValidFunc m f → (r : Register) → Has (all_registers f) r → func_types f ((numbers f).reg (number r)) ≡ scalar_of r.ty
 register_type m f valid r h = ap (λ o. scalar_of (unwrap_or o Void)) here
@@ -249,6 +146,22 @@ first_types (p ∷ ps) ts (suc q) s e = first_types ps ts q s e
 
 pub own_params : (f : Func) → (length (func_type f).params ≡ length f.params) × ((q : ℕ) (s : Scalar) → slice_get (func_type f).params q ≡ Some s → func_types f q ≡ s)
 own_params f = (length-map f.params (λ (q : Param). scalar_of q.ty), λ q s e. first_types f.params _ q s e)
+
+-- ---- the numbers of parameters
+
+-- a parameter has a number below theirs
+before_others : (ps : List Param) (ys : List LocalId) (q : Param) → Has ps q → position_or_len (is_local q.name.0) (map (λ (p : Param). p.name) ps ++ ys) < length ps
+before_others [] ys q h = absurd h
+before_others (p ∷ ps) ys q h = by_test (p.name.0 == q.name.0) refl (λ k. before_others ps ys q k) h
+  where
+    by_test : (t : Bool) → (p.name.0 == q.name.0) ≡ t → (Has ps q → position_or_len (is_local q.name.0) (map (λ (p : Param). p.name) ps ++ ys) < length ps) → (p ≡ q) ⊎ Has ps q
+        → position_or_len (is_local q.name.0) (p.name ∷ (map (λ (p : Param). p.name) ps ++ ys)) < suc (length ps)
+    by_test true t rest k = rw t (omega arith)
+    by_test false t rest (inl same) = absurd (let k : p.name.0 ≡ q.name.0 = ap (λ (z : Param). z.name.0) same in grind (arith, nat_tests))
+    by_test false t rest (inr k) = rw t (let lt = rest k in omega (arith, lt))
+
+pub param_first : (f : Func) (x : LocalId) → IsParam f x → (numbers f).reg x.0 < length f.params
+param_first f x q = subst (λ (y : LocalId). (numbers f).reg y.0 < length f.params) q.2 (before_others f.params (flat_map results f.blocks) q.0 (has_in f.params q.0 q.1))
 
 -- ---- operands
 

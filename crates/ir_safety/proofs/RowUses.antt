@@ -1,7 +1,8 @@
 -- What the rows of a function's instructions use and write: the names that the instructions use, and their results.
-use Rattle.std.proofs.Common.{◌≡◌, ◌⊎◌, inl, inr, ℕ, Bool, true, false, if◌then◌else◌, bytes_eq, codes, List, [], ◌∷◌, map, Option, Some, None, refl, sym, ap, subst}
+use Rattle.std.proofs.Common.{◌≡◌, ◌⊎◌, inl, inr, ℕ, Bool, true, false, if◌then◌else◌, bytes_eq, codes, List, [], ◌∷◌, map, Option, Some, None, Contains, refl, sym, ap, subst}
 use Rattle.std.specs.List.{flat_map}
 use Rattle.std.specs.Option.{option_map}
+use Rattle.std.proofs.lemmas.List.Elements.{All-contains}
 use Rattle.oi_base.specs.declared.ids.Place.{Place}
 use Rattle.oi_base.specs.declared.ids.RegId.{RegId}
 use Rattle.ir_core.specs.declared.flat.Scalar.{Scalar}
@@ -29,27 +30,31 @@ use Rattle.ir_core.specs.declared.op.Op.{Op}
 use Rattle.ir_core.specs.declared.op.Op.TheVariants as ops
 use Rattle.ir_core.specs.declared.op.End.{End}
 use Rattle.ir_core.specs.declared.op.End.TheVariants as ends
-use Rattle.ir_core.specs.Parts.{is_defined, op_values, end_values, types_of, values_of, operand_locals}
-use Rattle.ir_core.specs.Stands.{symbol_text}
+use Rattle.ir_core.specs.Parts.{instrs, is_defined, op_values, end_values, types_of, values_of, operand_locals}
+use Rattle.ir_core.specs.declared.op.Pair.{Pair}
+use Rattle.ir_core.specs.declared.func.Instr.{Instr}
+use Rattle.ir_core.specs.declared.func.Func.{Func}
+use Rattle.ir_core.specs.Stands.{op_operands, end_operands, symbol_text}
+use Rattle.ir_core.specs.Stands.{typed as with_type}
 use Rattle.ir_core.specs.Constants.{constant, zero_of, scalar_of, path, walk, joined, into, inside, element_of}
 use Rattle.ir_core.specs.Instructions.{register, operand, typed, index, first, func_number, instruction, phi, call, external_call, terminator}
 use Rattle.ir_core.specs.Formed.{of_result, written_by, used_by, used_at_end}
 use Rattle.ir_core.specs.Plain.{Numbers, other_reg, other_operand, other_term, other_instr, other_end}
-use Rattle.ir_core.specs.Proper.{HasItsResult}
+use Rattle.ir_core.specs.Proper.{HasItsResult, IsProperFunc}
+use Rattle.ir_core.specs.Valid.{IsValidFunc}
 use Rattle.ir_core.specs.ValidFunc.{IsPhi}
 use Rattle.ir_core.specs.ValidOps.{CallsWell, IsDefinedAs, IsDeclaredAs}
-use Rattle.ir_core.proofs.Lists.{Has, has_left, has_right, has_in}
+use Rattle.ir_core.proofs.Lists.{Has, each_of, has_part, has_in, has_mapped}
 use Rattle.ir_safety.proofs.Safe.{NotFalse, true_too, and_so, in_turn}
 use Rattle.ir_safety.proofs.Named.{named_any}
+use Rattle.ir_safety.proofs.Elements.{mapped_twice}
+use Rattle.ir_safety.proofs.PlainRows.{call_is, IsOneOf, AreAmong, row_is, end_among}
 
 -- ---- what rows use
 
 -- the registers among the operands of rows are local names among values
 abbrev pub AreOf : List Operand → List FlatOp → Type 0
 AreOf vs os = (x : RegId) → Has os (Reg x) → Has (flat_map operand_locals vs) (record { 0 = x.0 })
-
-none_of : (vs : List Operand) → AreOf vs []
-none_of vs x h = absurd h
 
 zero_no_register : (s : Scalar) (x : RegId) → zero_of s ≡ Reg x → ⊥
 zero_no_register (scalar.Word w) x e = cc
@@ -70,100 +75,33 @@ module _ (m : Module) where
   is_local_name t (operands.Local y) x e = let same : register y ≡ x = cc in ap (λ (r : RegId). operands.Local (record { 0 = r.0 })) same
   is_local_name t (operands.Const c) x e = absurd (no_register t c x e)
 
-  one_of : (t : IrType) (v : Operand) (vs : List Operand) (os : List FlatOp) → AreOf vs os → AreOf (v ∷ vs) (operand m t v ∷ os)
-  one_of t v vs os h x (inl e) = has_left (operand_locals v) (flat_map operand_locals vs) _ (subst (λ (w : Operand). Has (operand_locals w) (record { 0 = x.0 })) (sym (is_local_name t v x e)) (inl refl))
-  one_of t v vs os h x (inr g) = has_right (operand_locals v) (flat_map operand_locals vs) _ (h x g)
-
-  alone_of : (t : IrType) (v : Operand) → AreOf (v ∷ []) (operand m t v ∷ [])
-  alone_of t v = one_of t v [] [] (none_of [])
-
-  pair_of : (t u : IrType) (v w : Operand) → AreOf (v ∷ w ∷ []) (operand m t v ∷ operand m u w ∷ [])
-  pair_of t u v w = one_of t v (w ∷ []) (operand m u w ∷ []) (alone_of u w)
-
-  all_of : (as' : List TypedOperand) → AreOf (values_of as') (map (typed m) as')
-  all_of [] = none_of []
-  all_of (a ∷ as') = one_of a.ty a.value (values_of as') (map (typed m) as') (all_of as')
-
-  first_of_all : (as' : List TypedOperand) → AreOf (values_of as') (first (map (typed m) as') ∷ [])
-  first_of_all [] x (inl e) = absurd cc
-  first_of_all [] x (inr h) = absurd h
-  first_of_all (a ∷ as') x h = one_of a.ty a.value (values_of as') [] (none_of (values_of as')) x h
-
-  abbrev in_terms : List Term → List FlatOp
-  in_terms ts = map (λ (t : Term). t.operand) ts
-
-  -- a term's operand is one of the indices
-  walk_of : (is : List TypedOperand) (t : IrType) → AreOf (values_of is) (in_terms (walk m.types.defs t (map (index m) is)).terms)
-  walk_of [] t = none_of []
-  walk_of (i ∷ is) t = by_element (element_of m.types.defs t) (walk_of is (inside m.types.defs t (element_of m.types.defs t) (index m i)))
+  -- so they are where the operands of rows are among operands with these values
+  names_of : (as' : List TypedOperand) (vs : List Operand) (os : List FlatOp) → values_of as' ≡ vs → AreAmong m as' os → AreOf vs os
+  names_of as' vs os same among x h =
+      subst (λ (ws : List Operand). Has (flat_map operand_locals ws) (record { 0 = x.0 })) same (by_operand (each_of (IsOneOf m as') os (Reg x) among h))
     where
-      by_element : (o : Option IrType) → AreOf (values_of is) (in_terms (walk m.types.defs (inside m.types.defs t o (index m i)) (map (index m) is)).terms)
-          → AreOf (values_of (i ∷ is)) (in_terms (joined (into m.types.defs t o (index m i)) (walk m.types.defs (inside m.types.defs t o (index m i)) (map (index m) is))).terms)
-      by_element None h x g = has_right (operand_locals i.value) (flat_map operand_locals (values_of is)) _ (h x g)
-      by_element (Some item) h x g = one_of i.ty i.value (values_of is) _ h x g
+      by_operand : IsOneOf m as' (Reg x) → Has (flat_map operand_locals (values_of as')) (record { 0 = x.0 })
+      by_operand (inl e) = absurd cc
+      by_operand (inr (a, has, is)) =
+          has_part operand_locals (values_of as') a.value _ (has_mapped (λ (b : TypedOperand). b.value) as' a has)
+          (subst (λ (w : Operand). Has (operand_locals w) (record { 0 = x.0 })) (sym (is_local_name a.ty a.value x is)) (inl refl))
 
-  path_of : (is : List TypedOperand) (t : IrType) → AreOf (values_of is) (in_terms (path m.types.defs t (map (index m) is)).terms)
-  path_of [] t = none_of []
-  path_of (i ∷ is) t = one_of i.ty i.value (values_of is) _ (walk_of is t)
+  values_are : (op : Op) → values_of (op_operands op) ≡ op_values op
+  values_are (ops.Phi t es) = mapped_twice (λ (a : TypedOperand). a.value) (λ (e : Pair). with_type t e.value) es
+  values_are op = refl
 
-  -- a call is one of four instructions
-  call_forms : (d : Option RegId) (s : SymId) (args : List FlatOp) (Is : FlatInstr → Type 0) → Is (flat.Call d (record { 0 = func_number m s }) args) → Is (flat.Put d (first args)) → Is (flat.Get d)
-      → (is_defined m s ≡ false → bytes_eq (symbol_text m s) (codes "putchar") ≡ false → bytes_eq (symbol_text m s) (codes "getchar") ≡ false → Is (flat.Exit (first args))) → Is (call m d s args)
-  call_forms d s args Is inner put get exit = by_defined (is_defined m s) refl
-    where
-      by_exit : (t : Bool) → Is (flat.Exit (first args)) → Is (if t then flat.Exit (first args) else flat.Call d (record { 0 = func_number m s }) args)
-      by_exit true h = h
-      by_exit false h = inner
-
-      by_get : (t u : Bool) → (t ≡ false → Is (flat.Exit (first args))) → Is (if t then flat.Get d else (if u then flat.Exit (first args) else flat.Call d (record { 0 = func_number m s }) args))
-      by_get true u h = get
-      by_get false u h = by_exit u (h refl)
-
-      by_put : (t u v : Bool) → (t ≡ false → u ≡ false → Is (flat.Exit (first args))) → Is (if t then flat.Put d (first args) else (if u then flat.Get d else (if v then flat.Exit (first args) else flat.Call d (record { 0 = func_number m s }) args)))
-      by_put true u v h = put
-      by_put false u v h = by_get u v (h refl)
-
-      by_defined : (t : Bool) → is_defined m s ≡ t → Is (if t then flat.Call d (record { 0 = func_number m s }) args else external_call (symbol_text m s) d args (flat.Call d (record { 0 = func_number m s }) args))
-      by_defined true e = inner
-      by_defined false e = by_put (bytes_eq (symbol_text m s) (codes "putchar")) (bytes_eq (symbol_text m s) (codes "getchar")) (bytes_eq (symbol_text m s) (codes "exit")) (exit e)
-
-  abbrev pub RowOf : Op → Option FlatInstr → Type 0
-  RowOf op None = Unit {0}
-  RowOf op (Some w) = AreOf (op_values op) (used_by w)
-
-  call_of : (d : Option RegId) (s : SymId) (as' : List TypedOperand) → AreOf (values_of as') (used_by (call m d s (map (typed m) as')))
-  call_of d s as' = call_forms d s (map (typed m) as') (λ (w : FlatInstr). AreOf (values_of as') (used_by w)) (all_of as') (first_of_all as') (none_of (values_of as')) (λ e p q. first_of_all as')
+  end_values_are : (e : End) → values_of (end_operands e) ≡ end_values e
+  end_values_are (ends.Ret None) = refl
+  end_values_are (ends.Ret (Some a)) = refl
+  end_values_are (ends.Switch a other cases) = ap (λ (vs : List Operand). a.value ∷ vs) (mapped_twice (λ (b : TypedOperand). b.value) (λ (c : SwitchCase). c.value) cases)
+  end_values_are e = refl
 
   -- a row uses what its instruction uses
-  pub row_of : (r : Option LocalId) (op : Op) → RowOf op (instruction m r op)
-  row_of (Some d) (ops.Bin op t a b) = pair_of t t a b
-  row_of (Some d) (ops.Icmp c t a b) = pair_of t t a b
-  row_of (Some d) (ops.Select c a b) = one_of c.ty c.value (a.value ∷ b.value ∷ []) (typed m a ∷ typed m b ∷ []) (pair_of a.ty b.ty a.value b.value)
-  row_of (Some d) (ops.Cast c a t) = alone_of a.ty a.value
-  row_of (Some d) (ops.Alloca t count stated) = none_of []
-  row_of (Some d) (ops.Load t a stated) = alone_of a.ty a.value
-  row_of (Some d) (ops.Gep t a is) = one_of a.ty a.value (values_of is) _ (path_of is t)
-  row_of (Some d) (ops.Store a p stated) = pair_of a.ty p.ty a.value p.value
-  row_of (Some d) (ops.Call t s as') = call_of (Some (register d)) s as'
-  row_of (Some d) (ops.Phi t es) = tt
-  row_of None (ops.Bin op t a b) = tt
-  row_of None (ops.Icmp c t a b) = tt
-  row_of None (ops.Select c a b) = tt
-  row_of None (ops.Cast c a t) = tt
-  row_of None (ops.Alloca t count stated) = tt
-  row_of None (ops.Load t a stated) = tt
-  row_of None (ops.Gep t a is) = tt
-  row_of None (ops.Store a p stated) = pair_of a.ty p.ty a.value p.value
-  row_of None (ops.Call t s as') = call_of None s as'
-  row_of None (ops.Phi t es) = tt
+  pub row_of : (r : Option LocalId) (op : Op) (w : FlatInstr) → instruction m r op ≡ Some w → AreOf (op_values op) (used_by w)
+  row_of r op w e = names_of (op_operands op) (op_values op) (used_by w) (values_are op) (row_is m r op w e).1
 
   pub end_of : (e : End) → AreOf (end_values e) (used_at_end (terminator m e))
-  end_of (ends.Ret None) = none_of []
-  end_of (ends.Ret (Some a)) = alone_of a.ty a.value
-  end_of (ends.Br b) = none_of []
-  end_of (ends.Cond c x y) = alone_of c.ty c.value
-  end_of (ends.Switch a other cases) = one_of a.ty a.value (map (λ (c : SwitchCase). c.value.value) cases) [] (none_of (map (λ (c : SwitchCase). c.value.value) cases))
-  end_of ends.Unreachable = none_of []
+  end_of e = names_of (end_operands e) (end_values e) (used_at_end (terminator m e)) (end_values_are e) (end_among m e)
 
   -- a phi has no row among the other instructions
   pub no_phi : (r : Option LocalId) (op : Op) (w : FlatInstr) → instruction m r op ≡ Some w → IsPhi op → ⊥
@@ -242,7 +180,7 @@ module _ (m : Module) where
       by_name (inr (inr h)) = h.1
 
   -- each instruction with a result has its row
-  pub has_row : (p : Place) (d : LocalId) (op : Op) → HasItsResult (record { place = p; result = Some d; op = op }) → NotFalse (CallsWell m op) → NotFalse (HasRow m d (Some d) op)
+  has_row : (p : Place) (d : LocalId) (op : Op) → HasItsResult (record { place = p; result = Some d; op = op }) → NotFalse (CallsWell m op) → NotFalse (HasRow m d (Some d) op)
   has_row p d (ops.Bin op t a b) h c = true_too (inr (_, refl, refl))
   has_row p d (ops.Icmp x t a b) h c = true_too (inr (_, refl, refl))
   has_row p d (ops.Select x a b) h c = true_too (inr (_, refl, refl))
@@ -254,9 +192,15 @@ module _ (m : Module) where
   has_row p d (ops.Phi t es) h c = true_too (inl (_, refl, refl))
   has_row p d (ops.Call t s as') h c =
       in_turn
-      (call_forms m (Some (register d)) s (map (typed m) as') (λ (w : FlatInstr). NotFalse (written_by w ≡ Some d.0)) (true_too refl) (true_too refl) (true_too refl)
+      (call_is m (Some (register d)) s (map (typed m) as') (λ (w : FlatInstr). NotFalse (written_by w ≡ Some d.0)) (true_too refl) (true_too refl) (true_too refl)
       (λ e f g. and_so c (λ well. absurd (no_result (exits s t (types_of as') well e f g)))))
       (λ w. inr (call m (Some (register d)) s (map (typed m) as'), refl, w))
     where
       no_result : t ≡ Void → ⊥
       no_result e = let none : true ≡ false = subst (λ (u : IrType). HasItsResult (record { place = p; result = Some d; op = ops.Call u s as' })) e h in cc
+
+  pub result_row : (f : Func) → IsProperFunc f → IsValidFunc m f → (i : Instr) (d : LocalId) → Contains (instrs f) i → i.result ≡ Some d → NotFalse (HasRow m d i.result i.op)
+  result_row f proper rules i d stands e = subst (λ (r : Option LocalId). NotFalse (HasRow m d r i.op)) (sym e) (has_row i.place d i.op own (λ not. rules.calls i.place (i, stands, refl, not)))
+    where
+      own : HasItsResult (record { place = i.place; result = Some d; op = i.op })
+      own = subst (λ (r : Option LocalId). HasItsResult (record { place = i.place; result = r; op = i.op })) e (All-contains HasItsResult (instrs f) i proper.results stands)

@@ -20,6 +20,7 @@ use Rattle.ir_core.specs.Formed.{FuncType, Receives, IsBlock, IsPath, IsWritten,
 use Rattle.ir_core.proofs.Lists.{Has}
 use Rattle.ir_safety.proofs.Typed.{IsOf, tested}
 use Rattle.ir_safety.proofs.Effects.{AreOf}
+use Rattle.ir_safety.proofs.Elements.{one_at}
 
 -- the register has a value of its type
 abbrev pub HasReg : (ℕ → Scalar) → Regs → ℕ → Type 0
@@ -29,11 +30,6 @@ HasReg types regs r = (v : Value) × (regs r ≡ Some v) × IsOf (types r) v
 abbrev pub IsAwaited : Option RegId → ℕ → Type 0
 IsAwaited None r = ⊥
 IsAwaited (Some d) r = r ≡ d.0
-
--- ---- lists
-
-pub one_at : {A : Type 0} (o : Option A) (x y : A) → o ≡ Some x → o ≡ Some y → x ≡ y
-one_at o x y e f = let g : Some x ≡ Some y = sym e ∙ f in cc
 
 -- ---- registers
 

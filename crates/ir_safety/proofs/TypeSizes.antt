@@ -72,6 +72,11 @@ module _ (names : TypeName → Option Layout) (h : (x : TypeName) → IsAligned 
 
 -- ---- types of a module
 
+-- one level of an array
+pub array_out : (n : ℕ) (m : _) (item : IrType) → out-IrType (Array' n m (more_of-IrType item end_of-IrType)) ≡ IrType-F.Array n item
+unfolding Rattle.ir_core.specs.declared.ty.IrType.TheBlock.hidden-the_row-IrType-0 denote.Hole.Carrier.hidden
+array_out n m item = outs-Array n item
+
 -- what an index is multiplied by is a word
 abbrev pub HasSmallStride : Term → Type 0
 HasSmallStride t = t.stride < 4294967296
@@ -152,10 +157,6 @@ module _ (defs : List TypeDef) where
 
   array_leads : (t : IrType) (n : ℕ) (item : IrType) → out-IrType t ≡ IrType-F.Array n item → Has (directly_in defs t) item
   array_leads t n item e = rw e (inl refl)
-
-  array_out : (n : ℕ) (m : _) (item : IrType) → out-IrType (Array' n m (more_of-IrType item end_of-IrType)) ≡ IrType-F.Array n item
-  unfolding Rattle.ir_core.specs.declared.ty.IrType.TheBlock.hidden-the_row-IrType-0 denote.Hole.Carrier.hidden
-  array_out n m item = outs-Array n item
 
   element_leads : (t item : IrType) → element t ≡ Some item → Has (directly_in defs t) item
   element_leads (Array' n m (more_of-IrType u end_of-IrType)) item e =
