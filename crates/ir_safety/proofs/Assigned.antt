@@ -42,7 +42,7 @@ use Rattle.ir_core.specs.ValidPaths.{IsBlockOf, IsSuccessor, IsPathOf, Writes, I
 use Rattle.ir_core.proofs.Lists.{Has, has_at, at_has, has_part, has_source, contains, place_has, all_at, has_in, has_mapped, map_source, has_made, mapped}
 use Rattle.ir_core.proofs.SoundRules.{same_name}
 use Rattle.ir_safety.proofs.Safe.{NotFalse, true_too, and_so, in_turn, each_too}
-use Rattle.ir_safety.proofs.Elements.{one_at, left_at}
+use Rattle.ir_safety.proofs.Elements.{one_at, left_at, split}
 use Rattle.ir_safety.proofs.Registers.{param_first}
 use Rattle.ir_safety.proofs.PlainEdges.{row, IsFrom, GoesFrom, block_of, block_there, edge_of, labelled}
 use Rattle.ir_safety.proofs.PlainRows.{instr_row, phi_row}
@@ -94,22 +94,14 @@ abbrev in_order : List ℕ → List ℕ
 in_order [] = []
 in_order (b ∷ older) = in_order older ++ b ∷ []
 
-has_last : (xs : List ℕ) (b a : ℕ) → Has (xs ++ b ∷ []) a → (b ≡ a) ⊎ Has xs a
-has_last [] b a h = h
-has_last (x ∷ xs) b a (inl e) = inr (inl e)
-has_last (x ∷ xs) b a (inr h) = past (has_last xs b a h)
-  where
-    past : (b ≡ a) ⊎ Has xs a → (b ≡ a) ⊎ Has (x ∷ xs) a
-    past (inl e) = inl e
-    past (inr g) = inr (inr g)
-
 is_older : (older : List ℕ) (a : ℕ) → Has (in_order older) a → Has older a
 is_older [] a h = h
-is_older (b ∷ older) a h = past (has_last (in_order older) b a h) (λ g. is_older older a g)
+is_older (b ∷ older) a h = past (split (in_order older) (b ∷ []) a h) (λ g. is_older older a g)
   where
-    past : (b ≡ a) ⊎ Has (in_order older) a → (Has (in_order older) a → Has older a) → Has (b ∷ older) a
-    past (inl e) rest = inl e
-    past (inr g) rest = inr (rest g)
+    past : Has (in_order older) a ⊎ Has (b ∷ []) a → (Has (in_order older) a → Has older a) → Has (b ∷ older) a
+    past (inl g) rest = inr (rest g)
+    past (inr (inl e)) rest = inl e
+    past (inr (inr h)) rest = absurd h
 
 abbrev Steps : Func → List ℕ → Type 0
 Steps g [] = Unit {0}

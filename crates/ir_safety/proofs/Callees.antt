@@ -91,6 +91,9 @@ one_place xs x i j differ a b = by_less (in_order xs x i j differ a b) (in_order
 
 -- ---- functions
 
+pub type_at : (m : Module) (i : ℕ) (f : Func) → slice_get m.funcs i ≡ Some f → plain_funcs m i ≡ func_type f
+type_at m i f at = ap (λ (o : Option Func). option_map_or func_type o (record { params = []; result = None })) at
+
 module _ (m : Module) (valid : IsValid m) where
   abbrev known : Func → Introduced
   known f = record { name = f.name; place = f.place }
@@ -134,14 +137,11 @@ module _ (m : Module) (valid : IsValid m) where
       let name : g.0.name ≡ f.name = same_symbol g.0.name f.name (place_has (λ (g : Func). g.name.0) m.funcs f.name.0 g.0 g.1) in
       ap (slice_get m.funcs) (same_func (func_number m f.name) at.0 g.0 f g.1 at.1 name) ∙ at.1
 
-  type_at : (i : ℕ) (f : Func) → slice_get m.funcs i ≡ Some f → plain_funcs m i ≡ func_type f
-  type_at i f at = ap (λ (o : Option Func). option_map_or func_type o (record { params = []; result = None })) at
-
   -- the type of a function that the module defines
   pub callee_type : (s : SymId) (t : IrType) (ts : List IrType) → IsDefinedAs m s t ts → ((plain_funcs m (func_number m s)).params ≡ map scalar_of ts) × ((plain_funcs m (func_number m s)).result ≡ result_scalar t)
   callee_type s t ts d =
       let at : slice_get m.funcs (func_number m s) ≡ Some d.0 = subst (λ (x : SymId). slice_get m.funcs (func_number m x) ≡ Some d.0) d.2 (func_at d.0 d.1) in
-      let of_it : plain_funcs m (func_number m s) ≡ func_type d.0 = type_at (func_number m s) d.0 at in (
+      let of_it : plain_funcs m (func_number m s) ≡ func_type d.0 = type_at m (func_number m s) d.0 at in (
         ap (λ (t : FuncType). t.params) of_it ∙ sym (mapped_twice scalar_of (λ (q : Param). q.ty) d.0.params) ∙ ap (map scalar_of) d.4,
         ap (λ (t : FuncType). t.result) of_it ∙ ap result_scalar d.3,
       )
@@ -167,7 +167,7 @@ module _ (m : Module) (valid : IsValid m) where
           let named : symbol_text m g.0.name ≡ codes "main" = (bytes_eq-Decides (symbol_text m g.0.name) (codes "main")).0 g.2 in
           let number : g.0.name.0 ≡ h.0.name.0 = one_place m.symbols (codes "main") g.0.name.0 h.0.name.0 proper.symbols_once (main_at m g.0.name named) (main_at m h.0.name h.2) in
           let same : main_number m ≡ at.0 = same_func (main_number m) at.0 g.0 h.0 g.1 at.1 (same_symbol g.0.name h.0.name number) in
-          let its_type : plain_funcs m (main_number m) ≡ func_type h.0 = type_at (main_number m) h.0 (ap (slice_get m.funcs) same ∙ at.1) in (
+          let its_type : plain_funcs m (main_number m) ≡ func_type h.0 = type_at m (main_number m) h.0 (ap (slice_get m.funcs) same ∙ at.1) in (
             ap (λ (t : FuncType). t.params) its_type ∙ ap (map (λ (q : Param). scalar_of q.ty)) h.4,
             ap (λ (t : FuncType). t.result) its_type ∙ ap result_scalar h.5,
           )

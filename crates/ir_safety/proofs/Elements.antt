@@ -27,7 +27,7 @@ each_joined P [] ys p q = q
 each_joined P (x ∷ xs) ys p q = (p.0, each_joined P xs ys p.1 q)
 
 -- an element of a joined list
-split : {A : Type 0} (xs ys : List A) (x : A) → Has (xs ++ ys) x → Has xs x ⊎ Has ys x
+pub split : {A : Type 0} (xs ys : List A) (x : A) → Has (xs ++ ys) x → Has xs x ⊎ Has ys x
 split [] ys x h = inr h
 split (z ∷ zs) ys x (inl e) = inl (inl e)
 split (z ∷ zs) ys x (inr h) = later (split zs ys x h)

@@ -23,6 +23,7 @@ use Rattle.ir_safety.proofs.FormedNumbers.{no_way_back, few_params, written_once
 use Rattle.ir_safety.proofs.FormedUses.{used, addresses}
 use Rattle.ir_safety.proofs.FormedPhis.{phi_formed, phi_register}
 use Rattle.ir_safety.proofs.FormedSizes.{code_sizes, flat_cases}
+use Rattle.ir_safety.proofs.SafeBodies.{placed}
 use Rattle.ir_safety.proofs.ValidRuns.{plain_is_safe}
 
 module _ (m : Module) (proper : IsProper m) (valid : IsValid m) (few : HasFewNumbers m) where
@@ -48,27 +49,11 @@ module _ (m : Module) (proper : IsProper m) (valid : IsValid m) (few : HasFewNum
         defined_first = defined_first (func_types f) (plain_funcs m) (func_type f) (plain_body m f) h;
       }
 
-  -- the types of function g are those of the function that stands there
-  placed : (g : ℕ) (body : FlatBody) → IsKnownBody (plain_types m g) (plain_funcs m) (plain_funcs m g) body → (f : Func) × (slice_get m.funcs g ≡ Some f) × (plain_body m f ≡ body) → IsFormedBody (plain_types m g) (plain_funcs m) (plain_funcs m g) body
-  placed g body h (f, at, same) =
-      let types : plain_types m g ≡ func_types f = ap (λ (o : Option Func). option_map_or func_types o (λ (r : ℕ). scalar_of Void)) at in
-      let own : plain_funcs m g ≡ func_type f = ap (λ (o : Option Func). option_map_or func_type o (record { params = []; result = None })) at in
-      let here : IsKnownBody (func_types f) (plain_funcs m) (func_type f) (plain_body m f) =
-      subst (λ (ts : ℕ → Scalar). IsKnownBody ts (plain_funcs m) (func_type f) (plain_body m f)) types
-      (subst (λ (t : FuncType). IsKnownBody (plain_types m g) (plain_funcs m) t (plain_body m f)) own
-      (subst (λ (x : FlatBody). IsKnownBody (plain_types m g) (plain_funcs m) (plain_funcs m g) x) (sym same) h)) in
-      subst (λ (ts : ℕ → Scalar). IsFormedBody ts (plain_funcs m) (plain_funcs m g) body) (sym types)
-      (subst (λ (t : FuncType). IsFormedBody (func_types f) (plain_funcs m) t body) (sym own)
-      (subst (λ (x : FlatBody). IsFormedBody (func_types f) (plain_funcs m) (func_type f) x) same (body_formed g f at here)))
-
-  named : (g : ℕ) (body : FlatBody) → (f : Func) × (slice_get m.funcs g ≡ Some f) × (plain_body m f ≡ body) → All (NamesGlobal (length (global_memory m))) (all_uses body)
-  named g body (f, at, same) = subst (λ (x : FlatBody). All (NamesGlobal (length (global_memory m))) (all_uses x)) same (addresses m proper valid g f at)
-
   pub plain_is_formed : IsFormed (plain_program m) (plain_types m) (plain_funcs m)
   plain_is_formed = record {
-    bodies = λ g body e. placed g body (facts.bodies g body e) (mapped (plain_body m) (slice_get m.funcs g) body e);
+    bodies = λ g body e. placed m (λ ts t x. IsKnownBody ts (plain_funcs m) t x → IsFormedBody ts (plain_funcs m) t x) g body (body_formed g) e (facts.bodies g body e);
     has_main = facts.has_main;
     main_type = facts.main_type;
     called = facts.called;
-    addresses = λ g body e. named g body (mapped (plain_body m) (slice_get m.funcs g) body e);
+    addresses = λ g body e. placed m (λ ts t x. All (NamesGlobal (length (global_memory m))) (all_uses x)) g body (addresses m proper valid g) e;
   }

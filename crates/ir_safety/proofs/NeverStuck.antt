@@ -57,6 +57,38 @@ module _ (p : Program) (types : ℕ → ℕ → Scalar) (funcs : ℕ → FuncTyp
   abbrev Well : Option RegId → Activation → Type 0
   Well d a = StandsWell p types funcs d a
 
+  -- ---- a callee's first turn
+
+  enters : (g : ℕ) (args : List (Option Value)) (c : Callee p (types g) funcs g) → AreOf args (funcs g).params → Stands p types funcs None g 0 0 (λ q. at_most_one (slice_get (take c.0.params args) q))
+  enters g args c of = record {
+    body = c.0;
+    is_body = c.1;
+    block = c.2.0;
+    is_block = c.2.1;
+    older = [];
+    path = refl;
+    values = by_place;
+  }
+    where
+      there : IsSafeBody (types g) funcs (funcs g) c.0
+      there = safe.bodies g c.0 c.1
+
+      param : (q : ℕ) → q < c.0.params → HasReg (types g) (λ (k : ℕ). at_most_one (slice_get (take c.0.params args) k)) q
+      param q lt =
+          let count = there.own_params.0 in
+          let a = argument_at args (funcs g).params q of (omega (arith, lt, count)) in (
+            a.0,
+            ap at_most_one (taken_at c.0.params args q lt ∙ a.2),
+            subst (λ (k : Scalar). IsOf k a.0) (sym (there.own_params.1 q a.1 a.3)) a.4,
+          )
+
+      by_place : (q : ℕ) → IsWritten c.2.0 0 q ⊎ ComesIn c.0 [] q → IsAwaited None q ⊎ HasReg (types g) (λ (k : ℕ). at_most_one (slice_get (take c.0.params args) k)) q
+      by_place q (inl (inl phi)) = absurd (no_phi c.2.0 q c.2.2 phi)
+      by_place q (inl (inr h)) = let lt = h.2 in absurd (omega (arith, lt))
+      by_place q (inr lt) = inr (param q lt)
+
+  -- ---- a run that goes on
+
   module _ (r : Run) (going : r.status ≡ Going) (runs : Runs p types funcs r) where
     abbrev f : ℕ
     f = r.top.func
@@ -96,36 +128,6 @@ module _ (p : Program) (types : ℕ → ℕ → Scalar) (funcs : ℕ → FuncTyp
     ops_there : (n : ℕ) → n ≤ r.top.place → (os : List FlatOp) → All (ComesFirst s.body s.older s.block n) os → Each (IsThere (types f) r.top.regs) os
     ops_there n le [] h = tt
     ops_there n le (o ∷ os) h = (op_there n le o (All-head (ComesFirst s.body s.older s.block n) o os h), ops_there n le os (All-tail (ComesFirst s.body s.older s.block n) o os h))
-
-    -- ---- a callee's first turn
-
-    enters : (g : ℕ) (args : List (Option Value)) (c : Callee p (types f) funcs g) → AreOf args (funcs g).params → Stands p types funcs None g 0 0 (λ q. at_most_one (slice_get (take c.0.params args) q))
-    enters g args c of = record {
-      body = c.0;
-      is_body = c.1;
-      block = c.2.0;
-      is_block = c.2.1;
-      older = [];
-      path = refl;
-      values = by_place;
-    }
-      where
-        there : IsSafeBody (types g) funcs (funcs g) c.0
-        there = safe.bodies g c.0 c.1
-
-        param : (q : ℕ) → q < c.0.params → HasReg (types g) (λ (k : ℕ). at_most_one (slice_get (take c.0.params args) k)) q
-        param q lt =
-            let count = there.own_params.0 in
-            let a = argument_at args (funcs g).params q of (omega (arith, lt, count)) in (
-              a.0,
-              ap at_most_one (taken_at c.0.params args q lt ∙ a.2),
-              subst (λ (k : Scalar). IsOf k a.0) (sym (there.own_params.1 q a.1 a.3)) a.4,
-            )
-
-        by_place : (q : ℕ) → IsWritten c.2.0 0 q ⊎ ComesIn c.0 [] q → IsAwaited None q ⊎ HasReg (types g) (λ (k : ℕ). at_most_one (slice_get (take c.0.params args) k)) q
-        by_place q (inl (inl phi)) = absurd (no_phi c.2.0 q c.2.2 phi)
-        by_place q (inl (inr h)) = let lt = h.2 in absurd (omega (arith, lt))
-        by_place q (inr lt) = inr (param q lt)
 
     -- ---- instructions
 
@@ -318,24 +320,11 @@ module _ (p : Program) (types : ℕ → ℕ → Scalar) (funcs : ℕ → FuncTyp
     starts : Callee p (types p.main) funcs p.main → ((funcs p.main).params ≡ []) × ((funcs p.main).result ≡ Some (Word W32)) → Fine (flat_start p input)
     starts c t = goes_on p types funcs (flat_start p input) refl (record { top = top; below = t.1; input = small })
       where
+        none : c.0.params ≡ 0
+        none = let empty : length (funcs p.main).params ≡ 0 = ap length t.0 in let count = (safe.bodies p.main c.0 c.1).own_params.0 in omega (arith, empty, count)
+
         top : Well None (flat_start p input).top
-        top = record {
-          body = c.0;
-          is_body = c.1;
-          block = c.2.0;
-          is_block = c.2.1;
-          older = [];
-          path = refl;
-          values = by_place;
-        }
-          where
-            by_place : (q : ℕ) → IsWritten c.2.0 0 q ⊎ ComesIn c.0 [] q → IsAwaited None q ⊎ HasReg (types p.main) (λ (k : ℕ). None) q
-            by_place q (inl (inl phi)) = absurd (no_phi c.2.0 q c.2.2 phi)
-            by_place q (inl (inr h)) = let lt = h.2 in absurd (omega (arith, lt))
-            by_place q (inr lt) =
-                let none : length (funcs p.main).params ≡ 0 = ap length t.0 in
-                let count = (safe.bodies p.main c.0 c.1).own_params.0 in
-                absurd (omega (arith, lt, none, count))
+        top = subst (λ (n : ℕ). Stands p types funcs None p.main 0 0 (λ q. at_most_one (slice_get (take n []) q))) none (enters p.main [] c (subst (AreOf []) (sym t.0) tt))
 
     started : NotFalse (Fine (flat_start p input))
     started = and_so safe.has_main (λ b. and_so safe.main_type (λ t. in_turn (safe.bodies p.main b.0 b.1).entry (λ e. starts (b.0, b.1, e) t)))

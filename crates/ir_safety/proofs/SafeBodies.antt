@@ -24,6 +24,7 @@ use Rattle.ir_core.specs.Valid.{IsValid}
 use Rattle.ir_core.proofs.Lists.{mapped}
 use Rattle.ir_safety.proofs.Safe.{NotFalse, IsTypedInstr, IsTypedEnd, IsSafeBody, IsSafe}
 use Rattle.ir_safety.specs.PlainTypes.{func_types, func_type, plain_types, plain_funcs}
+use Rattle.ir_safety.proofs.Callees.{type_at}
 use Rattle.ir_safety.proofs.Labels.{entry_safe, in_range_safe, phis_safe}
 
 -- ---- what is known of each function, and of the whole
@@ -67,10 +68,19 @@ OfEach m P = (g : ℕ) (f : Func) → slice_get m.funcs g ≡ Some f → P f
 
 -- ---- the whole
 
+-- what holds of each plain body with the types of its function holds of what has that function's number
+pub placed : (m : Module) (P : (ℕ → Scalar) → FuncType → FlatBody → Type 0) (g : ℕ) (body : FlatBody) → ((f : Func) → slice_get m.funcs g ≡ Some f → P (func_types f) (func_type f) (plain_body m f))
+    → (plain_program m).body g ≡ Some body → P (plain_types m g) (plain_funcs m g) body
+placed m P g body each e =
+    let f = mapped (plain_body m) (slice_get m.funcs g) body e in
+    let types : plain_types m g ≡ func_types f.0 = ap (λ (o : Option Func). option_map_or func_types o (λ (r : ℕ). scalar_of Void)) f.1 in
+    subst (λ (ts : ℕ → Scalar). P ts (plain_funcs m g) body) (sym types)
+    (subst (λ (t : FuncType). P (func_types f.0) t body) (sym (type_at m g f.0 f.1)) (subst (P (func_types f.0) (func_type f.0)) f.2 (each f.0 f.1)))
+
 pub plain_bodies_safe : (m : Module) → IsProper m → IsValid m → ((f : Func) → OwnParams f) → OfEach m (PhiTypes m) → OfEach m (CodeTypes m) → OfEach m (EndTypes m) → OfEach m (FirstByCode m)
     → OfEach m (FirstByEnd m) → OfEach m (FirstByPhi m) → HasMain m → MainType m → AllCalled m → IsSafe (plain_program m) (plain_types m) (plain_funcs m)
 plain_bodies_safe m proper valid own_params phi_types code ends by_code by_end by_phi has_main main_type called = record {
-  bodies = λ g body e. placed g body (mapped (plain_body m) (slice_get m.funcs g) body e);
+  bodies = λ g body e. placed m (λ ts t x. IsSafeBody ts (plain_funcs m) t x) g body (body_safe g) e;
   has_main = has_main;
   main_type = main_type;
   called = called;
@@ -89,12 +99,3 @@ plain_bodies_safe m proper valid own_params phi_types code ends by_code by_end b
       by_end = by_end g f at;
       by_phi = by_phi g f at;
     }
-
-    -- the types of function g are those of the function that stands there
-    placed : (g : ℕ) (body : FlatBody) → (f : Func) × (slice_get m.funcs g ≡ Some f) × (plain_body m f ≡ body) → IsSafeBody (plain_types m g) (plain_funcs m) (plain_funcs m g) body
-    placed g body (f, at, same) =
-        let types : plain_types m g ≡ func_types f = ap (λ (o : Option Func). option_map_or func_types o (λ (r : ℕ). scalar_of Void)) at in
-        let own : plain_funcs m g ≡ func_type f = ap (λ (o : Option Func). option_map_or func_type o (record { params = []; result = None })) at in
-        subst (λ (ts : ℕ → Scalar). IsSafeBody ts (plain_funcs m) (plain_funcs m g) body) (sym types)
-        (subst (λ (t : FuncType). IsSafeBody (func_types f) (plain_funcs m) t body) (sym own)
-        (subst (IsSafeBody (func_types f) (plain_funcs m) (func_type f)) same (body_safe g f at)))

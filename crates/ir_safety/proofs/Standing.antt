@@ -20,7 +20,7 @@ use Rattle.ir_core.specs.Formed.{FuncType, Receives, IsBlock, IsPath, IsWritten,
 use Rattle.ir_core.proofs.Lists.{Has}
 use Rattle.ir_safety.proofs.Typed.{IsOf, tested}
 use Rattle.ir_safety.proofs.Effects.{AreOf}
-use Rattle.ir_safety.proofs.Elements.{one_at}
+use Rattle.ir_safety.proofs.Elements.{none_is_none, same_some, one_at}
 
 -- the register has a value of its type
 abbrev pub HasReg : (ℕ → Scalar) → Regs → ℕ → Type 0
@@ -164,24 +164,15 @@ module _ (p : Program) (types : ℕ → ℕ → Scalar) (funcs : ℕ → FuncTyp
 
   -- with a register set, or with none
   pub set_stands : {f b n : ℕ} {regs : Regs} (s : Stands None f b n regs) (i : FlatInstr) → slice_get s.block.code n ≡ Some i → (d : RegId) (v : Value) → written_by i ≡ Some d.0 → IsOf (types f d.0) v → Stands None f b (n + 1) (with_reg regs d.0 v)
-  set_stands {f} {regs = regs} s i at d v w h = next_stands s i at None (with_reg regs d.0 v) (λ r there. inr (set_has (types f) regs d.0 v h r (⊎_elim (λ e. inl (same r (sym e ∙ w))) (λ k. inr k) there)))
-    where
-      same : (r : ℕ) → Some r ≡ Some d.0 → r ≡ d.0
-      same r e = cc
+  set_stands {f} {regs = regs} s i at d v w h = next_stands s i at None (with_reg regs d.0 v) (λ r there. inr (set_has (types f) regs d.0 v h r (⊎_elim (λ e. inl (same_some r d.0 (sym e ∙ w))) (λ k. inr k) there)))
 
   pub none_stands : {f b n : ℕ} {regs : Regs} (s : Stands None f b n regs) (i : FlatInstr) → slice_get s.block.code n ≡ Some i → written_by i ≡ None → Stands None f b (n + 1) regs
-  none_stands {f} {regs = regs} s i at w = next_stands s i at None regs (λ r there. inr (⊎_elim (λ e. absurd (clash r (sym e ∙ w))) (λ k. k) there))
-    where
-      clash : (r : ℕ) → Some r ≡ None → ⊥
-      clash r e = cc
+  none_stands {f} {regs = regs} s i at w = next_stands s i at None regs (λ r there. inr (⊎_elim (λ e. absurd (none_is_none r (sym w ∙ e))) (λ k. k) there))
 
   -- a call's result, where it has one, is awaited
   pub call_stands : {f b n : ℕ} {regs : Regs} (s : Stands None f b n regs) (i : FlatInstr) → slice_get s.block.code n ≡ Some i → (d : Option RegId) → written_by i ≡ of_result d → Stands d f b (n + 1) regs
   call_stands s i at None w = none_stands s i at w
-  call_stands {f} {regs = regs} s i at (Some d) w = next_stands s i at (Some d) regs (λ r there. ⊎_elim (λ e. inl (same r (sym e ∙ w))) (λ k. inr k) there)
-    where
-      same : (r : ℕ) → Some r ≡ Some d.0 → r ≡ d.0
-      same r e = cc
+  call_stands {f} {regs = regs} s i at (Some d) w = next_stands s i at (Some d) regs (λ r there. ⊎_elim (λ e. inl (same_some r d.0 (sym e ∙ w))) (λ k. inr k) there)
 
   -- ---- a word that is put or taken
 
