@@ -2,7 +2,6 @@
 use Rattle.std.proofs.Common.{◌≡◌, inl, inr, ℕ, suc, Bool, true, false, if◌then◌else◌, List, [], ◌∷◌, ◌++◌, map, Option, Some, None, slice_get, All, Contains, refl, sym, ap, ◌∙◌, subst, arith}
 use Rattle.std.specs.Option.{option_map}
 use Rattle.std.proofs.lemmas.List.Elements.{All-from_recursion, recursion_from_All, All-map, All-contains}
-use Rattle.std.proofs.lemmas.Option.{slice_get-map}
 use Rattle.oi_base.specs.declared.ids.Place.{Place}
 use Rattle.oi_base.specs.declared.words.Width.TheVariants.{W1, W32}
 use Rattle.ir_core.specs.declared.flat.Scalar.{Scalar}
@@ -30,18 +29,18 @@ use Rattle.ir_core.specs.declared.func.Instr.{Instr}
 use Rattle.ir_core.specs.declared.func.Block.{Block}
 use Rattle.ir_core.specs.declared.func.Func.{Func}
 use Rattle.ir_core.specs.Parts.{instrs, types_of, is_defined}
-use Rattle.ir_core.specs.Stands.{Step, Does, Ends, steps, block_steps, place_of, op_operands, end_operands, operands_of, symbol_text}
+use Rattle.ir_core.specs.Stands.{Step, Does, Ends, steps, op_operands, end_operands, operands_of, symbol_text}
 use Rattle.ir_core.specs.Stands.{typed as with_type}
 use Rattle.ir_core.specs.Constants.{width_of, scalar_of, element_of, into, inside, walk, path}
 use Rattle.ir_core.specs.Formed.{HasType, is_cast, AllTyped, Receives, ReturnsType, IsBlock}
-use Rattle.ir_core.specs.Instructions.{register, typed, index, first, func_number, external_call, call, instruction, entry, phi, terminator, block_rows}
-use Rattle.ir_core.specs.Plain.{Numbers, other_reg, other_operand, other_term, other_instr, other_entry, other_phi, other_end, renumbered, numbers, plain_body}
+use Rattle.ir_core.specs.Instructions.{register, typed, index, first, func_number, external_call, call, instruction, entry, phi, terminator}
+use Rattle.ir_core.specs.Plain.{Numbers, other_reg, other_operand, other_term, other_instr, other_entry, other_phi, other_end, numbers, plain_body}
 use Rattle.ir_core.specs.Proper.{HasItsResult, IsProper, IsProperFunc}
 use Rattle.ir_core.specs.Valid.{IsValid, IsValidFunc}
 use Rattle.ir_core.specs.ValidConsts.{IsInteger, Walk, WalkFrom, index_of}
 use Rattle.ir_core.specs.ValidModule.{Introduced, introduced, introduced_globals, introduced_funcs}
 use Rattle.ir_core.specs.ValidOps.{IsScalar, op_result, LocalHasType, OperandAgrees, OpAgrees, EndAgrees, DoesAgree, StepAgrees, OperandFits, CountFits, IsDefinedAs, IsExternal, CallsWell}
-use Rattle.ir_core.proofs.Lists.{Has, Each, has_left, has_right, has_part, has_at, at_has, contains, has_source, all_at, has_in, has_mapped, map_source, mapped}
+use Rattle.ir_core.proofs.Lists.{Has, Each, has_right, has_at, at_has, all_at, has_in, has_mapped}
 use Rattle.ir_safety.proofs.Safe.{NotFalse, true_too, and_so, in_turn, IsTypedInstr, IsTypedEnd}
 use Rattle.ir_safety.proofs.Elements.{each_joined}
 use Rattle.ir_safety.proofs.PlainEdges.{block_of}
@@ -367,7 +366,9 @@ module _ (m : Module) (g : ℕ) (f : Func) (proper : IsProper m) (valid : IsVali
       phi_row row q made same = in_turn phi_entries (λ (good : IsGoodPhi m f (phi m i.result i.op)). subst AreEntries same (subst (IsGoodPhi m f) made good))
 
     block_end : NotFalse (IsTypedEnd (func_types f) (func_type f).result (other_end (numbers f) (terminator m b.end)))
-    block_end = in_turn (step_typed (Ends b) (ends f b here)) (λ (s : Each (IsOperand m f) (end_operands b.end) × EndAgrees f b.end). end_typed m f b.end s.0 s.1)
+    block_end =
+        in_turn (step_typed (Ends b) (ends f b here))
+        (λ (s : Each (IsOperand m f) (end_operands b.end) × EndAgrees f b.end). end_typed m f b.end s.0 s.1)
 
   -- ---- the plain body
 
@@ -384,4 +385,7 @@ module _ (m : Module) (g : ℕ) (f : Func) (proper : IsProper m) (valid : IsVali
       phi_row b.0 (has_at f.blocks x b.0 b.1) s.0 s.2 s.1 q s.3 s.4
 
   pub ends_typed : (x : ℕ) (k : FlatBlock) → IsBlock (plain_body m f) x k → NotFalse (IsTypedEnd (func_types f) (func_type f).result k.end)
-  ends_typed x k at = let b = block_of m f x k at in subst (λ (l : FlatBlock). NotFalse (IsTypedEnd (func_types f) (func_type f).result l.end)) b.2 (block_end b.0 (has_at f.blocks x b.0 b.1))
+  ends_typed x k at =
+      let b = block_of m f x k at in
+      subst (λ (l : FlatBlock). NotFalse (IsTypedEnd (func_types f) (func_type f).result l.end)) b.2
+      (block_end b.0 (has_at f.blocks x b.0 b.1))

@@ -1,46 +1,32 @@
 -- In the plain bodies of a valid module each register's definition comes first: what the rule of assignment says of the rows
 -- with their new numbers.
-use Rattle.std.proofs.Common.{◌≡◌, ◌⊎◌, inl, inr, ℕ, zero, suc, ◌<◌, ◌==◌, Bool, true, false, List, [], ◌∷◌, ◌++◌, map, length, Option, Some, None, slice_get, All, Contains, refl, sym, ap, ◌∙◌, subst, arith}
-use Rattle.std.specs.List.{flat_map, filter_map, cons_option, position_or_len}
+use Rattle.std.proofs.Common.{◌≡◌, ◌⊎◌, inl, inr, ℕ, zero, suc, ◌<◌, List, [], ◌∷◌, ◌++◌, map, length, Option, Some, None, slice_get, All, Contains, refl, sym, ap, ◌∙◌, subst, arith}
+use Rattle.std.specs.List.{flat_map, filter_map, cons_option}
 use Rattle.std.specs.Option.{option_map}
-use Rattle.std.proofs.lemmas.Bool.Decides.{nat_tests}
 use Rattle.std.proofs.lemmas.List.{length-map}
-use Rattle.std.proofs.lemmas.List.Elements.{All-nil, All-cons, All-contains}
 use Rattle.std.proofs.lemmas.Option.{slice_get_within, slice_get-map}
 use Rattle.oi_base.specs.declared.ids.Place.{Place}
 use Rattle.oi_base.specs.declared.ids.RegId.{RegId}
 use Rattle.ir_core.specs.declared.flat.FlatOp.{FlatOp}
 use Rattle.ir_core.specs.declared.flat.FlatOp.TheVariants.{Reg, Word, Null, Address, Poison}
-use Rattle.ir_core.specs.declared.flat.Case.{Case}
 use Rattle.ir_core.specs.declared.flat.Entry.{Entry}
 use Rattle.ir_core.specs.declared.flat.Phi.{Phi}
 use Rattle.ir_core.specs.declared.flat.FlatInstr.{FlatInstr}
 use Rattle.ir_core.specs.declared.flat.FlatBlock.{FlatBlock}
-use Rattle.ir_core.specs.declared.ty.IrType.{IrType}
 use Rattle.ir_core.specs.declared.module.Module.{Module}
 use Rattle.ir_core.specs.declared.op.LocalId.{LocalId}
 use Rattle.ir_core.specs.declared.op.Operand.{Operand}
-use Rattle.ir_core.specs.declared.op.Pair.{Pair}
-use Rattle.ir_core.specs.declared.op.SwitchCase.{SwitchCase}
-use Rattle.ir_core.specs.declared.op.Op.{Op}
-use Rattle.ir_core.specs.declared.op.Op.TheVariants as ops
-use Rattle.ir_core.specs.declared.op.End.{End}
-use Rattle.ir_core.specs.declared.op.End.TheVariants as ends
 use Rattle.ir_core.specs.declared.func.Instr.{Instr}
 use Rattle.ir_core.specs.declared.func.Block.{Block}
 use Rattle.ir_core.specs.declared.func.Func.{Func}
-use Rattle.ir_core.specs.declared.func.Param.{Param}
-use Rattle.ir_core.specs.Parts.{instrs, op_values, end_values, operand_locals, targets}
-use Rattle.ir_core.specs.Instructions.{register, operand, instruction, phi, entry, switch_case, terminator, block_rows}
-use Rattle.ir_core.specs.Formed as formed
+use Rattle.ir_core.specs.Parts.{op_values, end_values, operand_locals, targets}
+use Rattle.ir_core.specs.Instructions.{operand, terminator}
 use Rattle.ir_core.specs.Formed.{IsBlock, IsEdge, IsPath, IsWritten, ComesIn, ComesFirst, used_by, used_at_end}
-use Rattle.ir_core.specs.Plain.{other_operand, other_instr, other_entry, other_phi, other_case, other_end, renumbered, is_local, numbers, results, plain_body}
-use Rattle.ir_core.specs.Proper.{IsProper, IsProperFunc, HasItsResult}
+use Rattle.ir_core.specs.Plain.{other_operand, other_instr, other_phi, numbers, plain_body}
+use Rattle.ir_core.specs.Proper.{IsProper, IsProperFunc}
 use Rattle.ir_core.specs.Valid.{IsValid, IsValidFunc}
-use Rattle.ir_core.specs.ValidFunc.{IsParam}
 use Rattle.ir_core.specs.ValidPaths.{IsBlockOf, IsSuccessor, IsPathOf, Writes, IsAssigned, IsUse}
-use Rattle.ir_core.proofs.Lists.{Has, has_at, at_has, has_part, has_source, contains, place_has, all_at, has_in, has_mapped, map_source, has_made, mapped}
-use Rattle.ir_core.proofs.SoundRules.{same_name}
+use Rattle.ir_core.proofs.Lists.{Has, has_at, at_has, contains, all_at, has_in, has_mapped, map_source, has_made, mapped}
 use Rattle.ir_safety.proofs.Safe.{NotFalse, true_too, and_so, in_turn, each_too}
 use Rattle.ir_safety.proofs.Elements.{one_at, left_at, split}
 use Rattle.ir_safety.proofs.Registers.{param_first}
@@ -124,7 +110,8 @@ module _ (m : Module) (g : Func) where
   edge_step a b l edge at = from (edge_of m g a b edge) (block_of m g b l at)
     where
       from : GoesFrom m g a b → IsFrom m g b l → IsSuccessor g a b
-      from (c, at_c, (t, goes, to)) (d, at_d, same) = (c, d, at_c, at_d, subst (Contains (targets c.end)) (labelled g b d t at_d to) (contains (targets c.end) t goes))
+      from (c, at_c, (t, goes, to)) (d, at_d, same) =
+          (c, d, at_c, at_d, subst (Contains (targets c.end)) (labelled g b d t at_d to) (contains (targets c.end) t goes))
 
   steps_of : (older : List ℕ) (b : ℕ) (k : FlatBlock) → IsPath (plain_body m g) (b ∷ older) → IsBlock (plain_body m g) b k → (slice_get (in_order (b ∷ older)) 0 ≡ Some 0) × Steps g (in_order (b ∷ older))
   steps_of [] b k p at = (ap Some p, tt)
@@ -222,7 +209,8 @@ module _ (m : Module) (g : Func) (proper : IsProperFunc g) (rules : IsValidFunc 
       subst (λ (os : List FlatOp). NotFalse (All (ComesFirst (plain_body m g) older (row m g c) n) os)) (sym (end_used_other (numbers g) (terminator m c.end)))
       (all_first older b (length c.code) n c found earlier (end_values c.end) (used_at_end (terminator m c.end)) (end_of m c.end) (λ d h. assigned_for older b (length c.code) n c found earlier path c.end_place d (used d h)))
 
-  in_phi : (b : ℕ) (older : List ℕ) (c l : Block) (entries : List Entry) (e : Entry) → IsPathOf g (in_order older ++ b ∷ []) → IsBlockOf g b c → Has g.blocks l → Source m g l entries → Has entries e → e.from.0 ≡ b
+  in_phi : (b : ℕ) (older : List ℕ) (c l : Block) (entries : List Entry) (e : Entry) → IsPathOf g (in_order older ++ b ∷ []) → IsBlockOf g b c
+      → Has g.blocks l → Source m g l entries → Has entries e → e.from.0 ≡ b
       → NotFalse (ComesFirst (plain_body m g) older (row m g c) (length (row m g c).code) e.value)
   in_phi b older c l entries e path found hl s he from =
       let v = pair_of m g l entries s e he in

@@ -1,10 +1,9 @@
 -- `main` and the functions that are called are there, with the types that the rules ask.
-use Rattle.std.proofs.Common.{◌≡◌, ◌⊎◌, inl, inr, ℕ, zero, suc, ◌+◌, ◌<◌, ◌≤◌, ◌==◌, ◌||◌, Bool, true, false, not, cond, if◌then◌else◌, codes, List, [], ◌∷◌, ◌++◌, map, length, Option, Some, None, slice_get, Contains, refl, sym, ap, ◌∙◌, subst, arith}
+use Rattle.std.proofs.Common.{◌≡◌, ◌⊎◌, inl, inr, ℕ, suc, ◌+◌, ◌<◌, ◌≤◌, ◌==◌, Bool, true, false, not, cond, if◌then◌else◌, codes, List, [], ◌∷◌, ◌++◌, map, length, Option, Some, None, slice_get, Contains, refl, sym, ap, ◌∙◌, subst, arith}
 use Rattle.std.specs.Prelude.{unwrap_or}
-use Rattle.std.specs.List.{filter_map, list_any, position_or_len}
+use Rattle.std.specs.List.{position_or_len}
 use Rattle.std.specs.Option.{option_map, option_map_or}
 use Rattle.std.proofs.lemmas.Bool.{cases_eq, cases_lt}
-use Rattle.std.proofs.lemmas.Bool.Decides.{nat_tests}
 use Rattle.std.proofs.lemmas.Option.{slice_get-map, slice_get_within, get_or_from_slice_get}
 use Rattle.std.proofs.lemmas.Slice.Eq.{bytes_eq-Decides}
 use Rattle.oi_base.specs.declared.words.Width.TheVariants.{W32}
@@ -24,21 +23,20 @@ use Rattle.ir_core.specs.declared.op.LocalId.{LocalId}
 use Rattle.ir_core.specs.declared.op.Op.{Op}
 use Rattle.ir_core.specs.declared.op.Op.TheVariants as ops
 use Rattle.ir_core.specs.declared.func.Instr.{Instr}
-use Rattle.ir_core.specs.declared.func.Block.{Block}
 use Rattle.ir_core.specs.declared.func.Func.{Func}
 use Rattle.ir_core.specs.declared.func.Param.{Param}
 use Rattle.ir_core.specs.Parts.{instrs, is_defined, types_of}
 use Rattle.ir_core.specs.Stands.{start, symbol_text}
 use Rattle.ir_core.specs.Constants.{scalar_of}
-use Rattle.ir_core.specs.Instructions.{typed, register, func_number, external_call, call, instruction, block_rows}
+use Rattle.ir_core.specs.Instructions.{typed, register, func_number, external_call, call, instruction}
 use Rattle.ir_core.specs.Source.{is_main, main_number}
-use Rattle.ir_core.specs.Plain.{Numbers, other_instr, renumbered, numbers, plain_body, plain_program}
+use Rattle.ir_core.specs.Plain.{Numbers, other_instr, numbers, plain_body, plain_program}
 use Rattle.ir_core.specs.Formed.{FuncType, IsBlock}
 use Rattle.ir_core.specs.Proper.{IsProper, AllDiffer}
 use Rattle.ir_core.specs.Valid.{IsValid, IsValidFunc}
 use Rattle.ir_core.specs.ValidModule.{HasMain, Introduced, introduced_globals, introduced_funcs, introduced}
 use Rattle.ir_core.specs.ValidOps.{IsDefinedAs, IsExternal, IsDeclaredAs, CallsWell}
-use Rattle.ir_core.proofs.Lists.{Has, has_at, at_has, has_part, contains, has_source, element, place_within, place_has, all_at, has_in, mapped}
+use Rattle.ir_core.proofs.Lists.{Has, has_at, at_has, element, place_within, place_has, all_at, has_in, mapped}
 use Rattle.ir_safety.proofs.Safe.{NotFalse, in_turn}
 use Rattle.ir_safety.specs.PlainTypes.{func_type, result_scalar, plain_funcs}
 use Rattle.ir_safety.proofs.Elements.{left_at, mapped_twice}
@@ -261,8 +259,11 @@ module _ (m : Module) (valid : IsValid m) where
       block : IsFrom m func.0 b k
       block = block_of m func.0 b k (ap (λ (z : FlatBody). slice_get z.blocks b) func.2 ∙ at_b)
 
-      row : (j : Instr) × (i : FlatInstr) × Has block.0.code j × (instr_row m j ≡ Some i) × (other_instr (numbers func.0) i ≡ flat.Call d g args)
-      row = code_source m func.0 block.0 (flat.Call d g args) (subst (λ (l : FlatBlock). Has l.code (flat.Call d g args)) (sym block.2) (has_at k.code n (flat.Call d g args) at_n))
+      row : (j : Instr) × (i : FlatInstr) × Has block.0.code j × (instr_row m j ≡ Some i)
+          × (other_instr (numbers func.0) i ≡ flat.Call d g args)
+      row =
+          code_source m func.0 block.0 (flat.Call d g args)
+          (subst (λ (l : FlatBlock). Has l.code (flat.Call d g args)) (sym block.2) (has_at k.code n (flat.Call d g args) at_n))
 
       rule : NotFalse (CallsWell m row.0.op)
       rule none =

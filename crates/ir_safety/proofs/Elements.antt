@@ -41,7 +41,8 @@ pub in_part : {A B : Type 0} (f : A → List B) (xs : List A) (y : B) → Has (f
 in_part f [] y h = absurd h
 in_part f (z ∷ zs) y h = by_part (split (f z) (flat_map f zs) y h) (λ g. in_part f zs y g)
   where
-    by_part : Has (f z) y ⊎ Has (flat_map f zs) y → (Has (flat_map f zs) y → (x : _) × Has zs x × Has (f x) y) → (x : _) × Has (z ∷ zs) x × Has (f x) y
+    by_part : Has (f z) y ⊎ Has (flat_map f zs) y → (Has (flat_map f zs) y → (x : _) × Has zs x × Has (f x) y)
+        → (x : _) × Has (z ∷ zs) x × Has (f x) y
     by_part (inl g) rest = (z, inl refl, g)
     by_part (inr g) rest = let r = rest g in (r.0, inr r.1, r.2)
 
@@ -52,7 +53,8 @@ mapped_twice g f (x ∷ xs) = ap (λ ys. g (f x) ∷ ys) (mapped_twice g f xs)
 -- ---- places of keys that stand once
 
 module _ {A : Type 0} (key : A → ℕ) where
-  one_place : (xs : List A) (i j : ℕ) (a b : A) → Apart (map key xs) → slice_get xs i ≡ Some a → slice_get xs j ≡ Some b → key a ≡ key b → i ≡ j
+  one_place : (xs : List A) (i j : ℕ) (a b : A) → Apart (map key xs)
+      → slice_get xs i ≡ Some a → slice_get xs j ≡ Some b → key a ≡ key b → i ≡ j
   one_place [] i j a b once p q same = cc
   one_place (x ∷ xs) zero zero a b once p q same = refl
   one_place (x ∷ xs) (suc i) (suc j) a b once p q same = ap suc (one_place xs i j a b once.1 p q same)

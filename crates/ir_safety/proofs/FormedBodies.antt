@@ -1,21 +1,14 @@
 -- The plain bodies of a proper and valid module are formed, where registers and blocks have numbers of 32 bits.
-use Rattle.std.proofs.Common.{◌≡◌, ℕ, ◌<◌, length, Option, Some, slice_get, All, sym, ap, subst}
-use Rattle.std.specs.Option.{option_map_or}
-use Rattle.std.specs.Prelude.{[], None}
+use Rattle.std.proofs.Common.{◌≡◌, ℕ, ◌<◌, length, Some, slice_get, All, sym, subst}
 use Rattle.std.proofs.lemmas.List.{length-map}
-use Rattle.ir_core.specs.declared.flat.Scalar.{Scalar}
-use Rattle.ir_core.specs.declared.flat.FlatBody.{FlatBody}
-use Rattle.ir_core.specs.declared.ty.IrType.{Void}
-use Rattle.ir_core.specs.declared.func.Block.{Block}
 use Rattle.ir_core.specs.declared.func.Func.{Func}
 use Rattle.ir_core.specs.declared.module.Module.{Module}
-use Rattle.ir_core.specs.Constants.{scalar_of, global_memory}
-use Rattle.ir_core.specs.Instructions.{block_rows}
-use Rattle.ir_core.specs.Formed.{FuncType, all_uses, NamesGlobal, IsFormedBody, IsFormed}
-use Rattle.ir_core.specs.Plain.{registers, renumbered, numbers, plain_body, plain_program}
+use Rattle.ir_core.specs.Constants.{global_memory}
+use Rattle.ir_core.specs.Formed.{all_uses, NamesGlobal, IsFormedBody, IsFormed}
+use Rattle.ir_core.specs.Plain.{registers, plain_body, plain_program}
 use Rattle.ir_core.specs.Proper.{IsProper}
 use Rattle.ir_core.specs.Valid.{IsValid}
-use Rattle.ir_core.proofs.Lists.{all_at, mapped}
+use Rattle.ir_core.proofs.Lists.{all_at}
 use Rattle.ir_safety.specs.PlainTypes.{func_types, func_type, plain_types, plain_funcs, HasFewNumbers}
 use Rattle.ir_safety.proofs.PlainEdges.{row}
 use Rattle.ir_safety.proofs.Decided.{IsKnownBody, IsKnown, known, defined_first, typed, typed_end}
@@ -51,9 +44,13 @@ module _ (m : Module) (proper : IsProper m) (valid : IsValid m) (few : HasFewNum
 
   pub plain_is_formed : IsFormed (plain_program m) (plain_types m) (plain_funcs m)
   plain_is_formed = record {
-    bodies = λ g body e. placed m (λ ts t x. IsKnownBody ts (plain_funcs m) t x → IsFormedBody ts (plain_funcs m) t x) g body (body_formed g) e (facts.bodies g body e);
+    bodies = λ g body e.
+        placed m (λ types own x. IsKnownBody types (plain_funcs m) own x → IsFormedBody types (plain_funcs m) own x) g body
+        (body_formed g) e (facts.bodies g body e);
     has_main = facts.has_main;
     main_type = facts.main_type;
     called = facts.called;
-    addresses = λ g body e. placed m (λ ts t x. All (NamesGlobal (length (global_memory m))) (all_uses x)) g body (addresses m proper valid g) e;
+    addresses = λ g body e.
+        placed m (λ types own x. All (NamesGlobal (length (global_memory m))) (all_uses x)) g body
+        (addresses m proper valid g) e;
   }

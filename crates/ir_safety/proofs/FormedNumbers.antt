@@ -19,17 +19,17 @@ use Rattle.ir_core.specs.declared.func.Func.{Func}
 use Rattle.ir_core.specs.declared.func.Param.{Param}
 use Rattle.ir_core.specs.Parts.{targets}
 use Rattle.ir_core.specs.Formed.{IsEdge, written_by, writes, all_writes}
-use Rattle.ir_core.specs.Instructions.{instruction, phi, block_rows}
+use Rattle.ir_core.specs.Instructions.{block_rows}
 use Rattle.ir_core.specs.Plain.{Numbers, other_phi, other_instr, renumbered, numbers, results, registers, plain_body}
 use Rattle.ir_core.specs.Proper.{IsProper, IsProperFunc}
 use Rattle.ir_core.specs.Valid.{IsValid, IsValidFunc}
-use Rattle.ir_core.proofs.Lists.{Has, Each, Apart, each_of, each_from, has_at, has_right, has_part, has_made, has_mapped, has_source, map_source, contains, all_at, element, mapped_parts, place, place_within, place_has}
+use Rattle.ir_core.proofs.Lists.{Has, Each, Apart, each_of, each_from, has_at, has_right, has_part, has_made, has_mapped, has_source, map_source, contains, all_at, element, mapped_parts, place, place_within}
 use Rattle.ir_core.proofs.SoundRules.{same_name}
 use Rattle.ir_safety.proofs.Elements.{each_joined, in_part, mapped_twice, one_key}
 use Rattle.ir_safety.proofs.RowUses.{written_other}
 use Rattle.ir_safety.proofs.PlainEdges.{row, GoesFrom, edge_of, labelled}
 use Rattle.ir_safety.proofs.PlainRows.{instr_row, phi_row, writes_result, phi_is, phi_alone}
-use Rattle.ir_safety.proofs.Once.{apart_between, apart_parts, apart_made, pairs_differ, result_names, label, own_names, blocks_once, no_param}
+use Rattle.ir_safety.proofs.Once.{apart_between, apart_parts, apart_made, pairs_differ, result_names, own_names, blocks_once, no_param}
 
 -- ---- what the rows of some instructions write
 
@@ -207,4 +207,5 @@ module _ (m : Module) (proper : IsProper m) (valid : IsValid m) (g : ℕ) (f : F
       from : GoesFrom m f a 0 → ⊥
       from (c, at_c, (x, goes, to)) =
           let b = element f.blocks 0 is_proper.has_blocks in
-          rules.entry c.end_place (b.0, b.1, (c, contains f.blocks c (has_at f.blocks a c at_c), refl, subst (Contains (targets c.end)) (labelled f 0 b.0 x b.1 to) (contains (targets c.end) x goes)))
+          rules.entry c.end_place
+          (b.0, b.1, (c, contains f.blocks c (has_at f.blocks a c at_c), refl, subst (Contains (targets c.end)) (labelled f 0 b.0 x b.1 to) (contains (targets c.end) x goes)))

@@ -1,33 +1,29 @@
 -- The phis of a plain body: each has an entry for each block before its own and only for those, and two entries for one block have
 -- one operand.
-use Rattle.std.proofs.Common.{◌≡◌, inr, ℕ, ◌<◌, ◌≤◌, List, [], ◌∷◌, map, length, Some, slice_get, All, Contains, refl, sym, ap, ◌∙◌, subst}
+use Rattle.std.proofs.Common.{◌≡◌, ℕ, ◌<◌, ◌≤◌, List, map, length, Some, slice_get, Contains, sym, ap, ◌∙◌, subst}
 use Rattle.std.proofs.lemmas.Bool.{cases_eq}
 use Rattle.std.proofs.lemmas.List.Elements.{All-contains}
 use Rattle.ir_core.specs.declared.flat.Entry.{Entry}
 use Rattle.ir_core.specs.declared.flat.Phi.{Phi}
 use Rattle.ir_core.specs.declared.flat.FlatBlock.{FlatBlock}
-use Rattle.ir_core.specs.declared.ty.IrType.{IrType}
 use Rattle.ir_core.specs.declared.module.Module.{Module}
 use Rattle.ir_core.specs.declared.op.LocalId.{LocalId}
 use Rattle.ir_core.specs.declared.op.TypedOperand.{TypedOperand}
 use Rattle.ir_core.specs.declared.op.Pair.{Pair}
-use Rattle.ir_core.specs.declared.op.Op.{Op}
-use Rattle.ir_core.specs.declared.op.Op.TheVariants as ops
-use Rattle.ir_core.specs.declared.func.Instr.{Instr}
 use Rattle.ir_core.specs.declared.func.Block.{Block}
 use Rattle.ir_core.specs.declared.func.Func.{Func}
 use Rattle.ir_core.specs.Parts.{targets}
-use Rattle.ir_core.specs.Stands.{Does, Ends, block_steps, steps, op_operands}
+use Rattle.ir_core.specs.Stands.{Does, steps, op_operands}
 use Rattle.ir_core.specs.Stands.{typed as with_type}
 use Rattle.ir_core.specs.Formed.{IsBlock, IsEdge, IsPhi, writes, all_writes}
-use Rattle.ir_core.specs.Instructions.{operand, entry, block_rows}
-use Rattle.ir_core.specs.Plain.{other_operand, other_entry, other_phi, numbers, registers, plain_body}
+use Rattle.ir_core.specs.Instructions.{operand}
+use Rattle.ir_core.specs.Plain.{other_operand, numbers, registers, plain_body}
 use Rattle.ir_core.specs.Proper.{IsProper}
 use Rattle.ir_core.specs.Valid.{IsValid, IsValidFunc}
 use Rattle.ir_core.specs.ValidConsts.{meaning}
-use Rattle.ir_core.specs.ValidOps.{OperandAgrees, StepAgrees, OperandFits, CountFits}
+use Rattle.ir_core.specs.ValidOps.{OperandAgrees, OperandFits}
 use Rattle.ir_core.specs.ValidPaths.{Precedes, HasGoodEntries}
-use Rattle.ir_core.proofs.Lists.{Has, has_at, at_has, has_left, has_part, has_source, has_mapped, map_source, contains, has_in, all_at, element, place, place_within, place_has}
+use Rattle.ir_core.proofs.Lists.{Has, has_at, at_has, has_left, has_part, has_mapped, contains, has_in, all_at, place, place_within}
 use Rattle.ir_core.proofs.SoundRules.{same_name}
 use Rattle.ir_safety.proofs.Safe.{NotFalse, and_so, in_turn}
 use Rattle.ir_safety.proofs.Labels.{phis_safe}
@@ -41,7 +37,8 @@ use Rattle.ir_safety.proofs.OperandMeanings.{of_meaning, operand_means}
 
 -- ---- a phi of a block
 
-module _ (m : Module) (f : Func) (rules : IsValidFunc m f) (b : ℕ) (block : Block) (found : slice_get f.blocks b ≡ Some block) (entries : List Entry) (s : Source m f block entries) where
+module _ (m : Module) (f : Func) (rules : IsValidFunc m f) (b : ℕ) (block : Block)
+    (found : slice_get f.blocks b ≡ Some block) (entries : List Entry) (s : Source m f block entries) where
   here : Has f.blocks block
   here = has_at f.blocks b block found
 

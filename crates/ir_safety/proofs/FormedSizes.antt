@@ -1,11 +1,10 @@
 -- Sizes, alignments, strides and cases in the plain bodies of a proper and valid module are those of formed bodies.
-use Rattle.std.proofs.Common.{◌≡◌, ◌≢◌, inl, inr, ⊎_elim, ℕ, suc, ◌*◌, ◌<◌, ◌≤◌, Bool, true, false, if◌then◌else◌, bytes_eq, codes, ℤ, pos, negsuc, unsigned_abs, List, [], ◌∷◌, length, map, Option, Some, None, slice_get, slice_index_or, All, AllPairs, Contains, refl, sym, ap, ◌∙◌, subst, arith}
+use Rattle.std.proofs.Common.{◌≡◌, ◌≢◌, inl, inr, ⊎_elim, ℕ, suc, ◌*◌, ◌<◌, ◌≤◌, Bool, true, false, ℤ, pos, negsuc, unsigned_abs, List, [], ◌∷◌, length, map, Option, Some, None, slice_get, slice_index_or, All, AllPairs, Contains, refl, sym, ap, ◌∙◌, subst, arith}
 use Rattle.std.proofs.Math.Nat.{mod-lt, mul_comm}
 use Rattle.std.proofs.lemmas.Bool.{cases_lt}
 use Rattle.std.proofs.lemmas.List.{length-map}
 use Rattle.std.proofs.lemmas.List.Elements.{All-head, All-tail, All-map, All-contains}
 use Rattle.std.proofs.lemmas.List.Kept.{AllPairs-cons}
-use Rattle.std.proofs.lemmas.Option.{slice_get-map}
 use Rattle.oi_base.specs.declared.ids.Place.{Place}
 use Rattle.oi_base.specs.declared.ids.RegId.{RegId}
 use Rattle.oi_base.specs.declared.words.Width.{Width}
@@ -36,21 +35,21 @@ use Rattle.ir_core.specs.declared.op.End.TheVariants as ends
 use Rattle.ir_core.specs.declared.func.Instr.{Instr}
 use Rattle.ir_core.specs.declared.func.Block.{Block}
 use Rattle.ir_core.specs.declared.func.Func.{Func}
-use Rattle.ir_core.specs.Parts.{instrs, is_defined, op_values}
-use Rattle.ir_core.specs.Stands.{Step, Does, Ends, steps, block_steps, place_of, op_operands, symbol_text}
+use Rattle.ir_core.specs.Parts.{instrs, op_values}
+use Rattle.ir_core.specs.Stands.{Does, Ends, steps, op_operands}
 use Rattle.ir_core.specs.Memory.{scalar_size}
 use Rattle.ir_core.specs.Words.{bit}
 use Rattle.ir_core.specs.Constants.{width_of, field_number, constant, path}
 use Rattle.ir_core.specs.Formed.{DifferentCases, IsBlock}
 use Rattle.ir_core.specs.Sizes.{size}
-use Rattle.ir_core.specs.Instructions.{register, operand, typed, index, first, func_number, call, instruction, switch_case, terminator, block_rows}
-use Rattle.ir_core.specs.Plain.{Numbers, other_operand, other_term, other_instr, other_case, other_end, renumbered, numbers, plain_body}
+use Rattle.ir_core.specs.Instructions.{register, operand, typed, index, func_number, call, instruction, switch_case, terminator}
+use Rattle.ir_core.specs.Plain.{Numbers, other_operand, other_term, other_instr, other_case, other_end, numbers, plain_body}
 use Rattle.ir_core.specs.Proper.{HasFewArguments, IsCount, HasItsCount, IsProper, IsProperFunc}
 use Rattle.ir_core.specs.Valid.{IsValid, IsValidFunc}
 use Rattle.ir_core.specs.ValidConsts.{Meaning, IsWord, meaning}
 use Rattle.ir_core.specs.ValidOps.{IsScalar, OperandAgrees, OpAgrees, EndAgrees, StepAgrees, IsCaseWord, HasGoodCases}
 use Rattle.ir_core.specs.ValidTypes.{MakesTooMuch, PromisesWell, op_sized, sources_in_values, step_sized}
-use Rattle.ir_core.proofs.Lists.{Has, has_left, has_right, has_part, has_at, contains, has_source, all_at, has_mapped, map_source, mapped}
+use Rattle.ir_core.proofs.Lists.{Has, has_left, has_at, contains, all_at}
 use Rattle.ir_safety.proofs.Safe.{NotFalse, and_so, in_turn}
 use Rattle.ir_safety.proofs.Decided.{Decided, so, always, both, is_less, is_at_most, each_element, is_align, HasGoodSizes, HasFlatCases}
 use Rattle.ir_safety.proofs.Typed.{some_words, word_small}
@@ -261,4 +260,6 @@ module _ (m : Module) (g : ℕ) (f : Func) (proper : IsProper m) (valid : IsVali
       row_sizes b.0 (has_at f.blocks x b.0 b.1) s.0 s.2 s.1 i s.3 s.4
 
   pub flat_cases : (x : ℕ) (k : FlatBlock) → IsBlock (plain_body m f) x k → HasFlatCases k.end
-  flat_cases x k at = let b = block_of m f x k at in subst (λ (l : FlatBlock). HasFlatCases l.end) b.2 (block_cases b.0 (has_at f.blocks x b.0 b.1))
+  flat_cases x k at =
+      let b = block_of m f x k at in
+      subst (λ (l : FlatBlock). HasFlatCases l.end) b.2 (block_cases b.0 (has_at f.blocks x b.0 b.1))

@@ -1,11 +1,10 @@
 -- The operands of a plain body: each register among them is a parameter or written, and each address is that of a global variable.
-use Rattle.std.proofs.Common.{◌≡◌, ◌⊎◌, inl, inr, ℕ, suc, ◌<◌, ◌==◌, Bool, true, false, List, [], ◌∷◌, ◌++◌, map, length, Option, Some, slice_get, All, Contains, refl, sym, ap, ◌∙◌, subst, arith}
+use Rattle.std.proofs.Common.{◌≡◌, ◌⊎◌, inl, inr, ℕ, ◌<◌, List, [], ◌∷◌, ◌++◌, map, length, Some, slice_get, All, Contains, refl, sym, subst}
 use Rattle.std.specs.List.{flat_map, filter_map}
 use Rattle.std.proofs.lemmas.Bool.{cases_eq}
-use Rattle.std.proofs.lemmas.Bool.Decides.{nat_tests}
 use Rattle.std.proofs.lemmas.List.{length-map}
 use Rattle.std.proofs.lemmas.List.Folds.{flat_map-map}
-use Rattle.std.proofs.lemmas.List.Elements.{All-from_recursion, All-contains}
+use Rattle.std.proofs.lemmas.List.Elements.{All-from_recursion}
 use Rattle.ir_core.specs.declared.flat.Scalar.{Scalar}
 use Rattle.ir_core.specs.declared.flat.Scalar.TheVariants as scalar
 use Rattle.ir_core.specs.declared.flat.FlatOp.{FlatOp}
@@ -23,25 +22,20 @@ use Rattle.ir_core.specs.declared.op.LocalId.{LocalId}
 use Rattle.ir_core.specs.declared.op.Operand.{Operand}
 use Rattle.ir_core.specs.declared.op.Operand.TheVariants as operands
 use Rattle.ir_core.specs.declared.op.TypedOperand.{TypedOperand}
-use Rattle.ir_core.specs.declared.op.Pair.{Pair}
-use Rattle.ir_core.specs.declared.op.Op.{Op}
-use Rattle.ir_core.specs.declared.op.Op.TheVariants as ops
-use Rattle.ir_core.specs.declared.func.Instr.{Instr}
 use Rattle.ir_core.specs.declared.func.Block.{Block}
 use Rattle.ir_core.specs.declared.func.Func.{Func}
-use Rattle.ir_core.specs.declared.func.Param.{Param}
 use Rattle.ir_core.specs.Parts.{instrs}
-use Rattle.ir_core.specs.Stands.{Step, Does, Ends, block_steps, steps, place_of, op_operands, operands_of}
+use Rattle.ir_core.specs.Stands.{Step, Does, Ends, steps, place_of, operands_of}
 use Rattle.ir_core.specs.Stands.{typed as with_type}
 use Rattle.ir_core.specs.Constants.{zero_of, scalar_of, constant, global_number, global_block, global_memory}
 use Rattle.ir_core.specs.Formed.{used_by, used_at_end, uses, all_uses, all_writes, IsParamOrWritten, NamesGlobal}
-use Rattle.ir_core.specs.Instructions.{operand, typed, entry, terminator, block_rows}
-use Rattle.ir_core.specs.Plain.{other_operand, other_instr, other_entry, other_phi, numbers, results, plain_body}
-use Rattle.ir_core.specs.Proper.{HasItsResult, IsProper, IsProperFunc}
+use Rattle.ir_core.specs.Instructions.{operand, typed, terminator}
+use Rattle.ir_core.specs.Plain.{other_operand, numbers, plain_body}
+use Rattle.ir_core.specs.Proper.{IsProper, IsProperFunc}
 use Rattle.ir_core.specs.Valid.{IsValid, IsValidFunc}
 use Rattle.ir_core.specs.ValidConsts.{IsVariable}
 use Rattle.ir_core.specs.ValidFunc.{IsParam, IsRegister, IsKnown}
-use Rattle.ir_core.proofs.Lists.{Has, Each, each_of, each_from, has_left, has_right, has_part, has_made, has_mapped, has_source, map_source, contains, has_in, all_at, place, place_within}
+use Rattle.ir_core.proofs.Lists.{Has, Each, each_of, each_from, has_left, has_right, has_part, has_made, has_mapped, map_source, contains, has_in, all_at, place_within}
 use Rattle.ir_safety.proofs.Safe.{NotFalse, and_so, in_turn, true_too}
 use Rattle.ir_safety.proofs.Elements.{in_part, each_joined}
 use Rattle.ir_safety.proofs.Registers.{param_first}
@@ -73,13 +67,16 @@ module _ (m : Module) (f : Func) (P : FlatOp → Type 0) (poison : P Poison)
 
   module _ (b : Block) (here : Has f.blocks b) where
     by_end : Each P (used_at_end (row m f b).end)
-    by_end = subst (Each P) (sym (end_used_other (numbers f) (terminator m b.end))) (of_steps (Ends b) (ends f b here) (used_at_end (terminator m b.end)) (end_among m b.end))
+    by_end =
+        subst (Each P) (sym (end_used_other (numbers f) (terminator m b.end)))
+        (of_steps (Ends b) (ends f b here) (used_at_end (terminator m b.end)) (end_among m b.end))
 
     by_code : Each P (flat_map used_by (row m f b).code)
     by_code = each_in_parts P used_by (row m f b).code (λ z h.
         let s = code_source m f b z h in
         subst (λ (v : FlatInstr). Each P (used_by v)) s.4
-        (subst (Each P) (sym (used_other (numbers f) s.1)) (of_steps (Does s.0) (does f b here s.0 s.2) (used_by s.1) (row_is m s.0.result s.0.op s.1 s.3).1)))
+        (subst (Each P) (sym (used_other (numbers f) s.1))
+        (of_steps (Does s.0) (does f b here s.0 s.2) (used_by s.1) (row_is m s.0.result s.0.op s.1 s.3).1)))
 
     by_phis : Each P (flat_map (λ (q : Phi). map (λ (e : Entry). e.value) q.entries) (row m f b).phis)
     by_phis = each_in_parts P (λ (q : Phi). map (λ (e : Entry). e.value) q.entries) (row m f b).phis (λ q h.

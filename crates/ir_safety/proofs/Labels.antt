@@ -1,40 +1,26 @@
 -- Blocks and labels of plain bodies: the entry block has no phis, each target is a block, and each phi has an entry for each block
 -- before it.
-use Rattle.std.proofs.Common.{◌≡◌, ◌≢◌, inl, inr, ℕ, zero, suc, ◌<◌, ◌==◌, Bool, true, false, List, [], ◌∷◌, ◌++◌, map, length, Option, Some, None, slice_get, Contains, refl, sym, ap, ◌∙◌, subst, arith}
-use Rattle.std.specs.List.{flat_map}
-use Rattle.std.specs.Option.{option_map}
-use Rattle.std.proofs.lemmas.Bool.Decides.{nat_tests}
-use Rattle.std.proofs.lemmas.List.{map-append, length-map}
+use Rattle.std.proofs.Common.{◌≡◌, inl, inr, ℕ, ◌<◌, List, [], ◌∷◌, map, length, Some, slice_get, Contains, refl, sym, ap, ◌∙◌, subst, arith}
+use Rattle.std.proofs.lemmas.List.{length-map}
 use Rattle.std.proofs.lemmas.List.Elements.{All-contains}
-use Rattle.ir_core.specs.declared.flat.Case.{Case}
 use Rattle.ir_core.specs.declared.flat.Entry.{Entry}
 use Rattle.ir_core.specs.declared.flat.Phi.{Phi}
 use Rattle.ir_core.specs.declared.flat.FlatBlock.{FlatBlock}
-use Rattle.ir_core.specs.declared.ty.IrType.{IrType}
 use Rattle.ir_core.specs.declared.module.Module.{Module}
 use Rattle.ir_core.specs.declared.op.LocalId.{LocalId}
-use Rattle.ir_core.specs.declared.op.Pair.{Pair}
-use Rattle.ir_core.specs.declared.op.SwitchCase.{SwitchCase}
-use Rattle.ir_core.specs.declared.op.Op.{Op}
-use Rattle.ir_core.specs.declared.op.Op.TheVariants as ops
-use Rattle.ir_core.specs.declared.op.End.{End}
-use Rattle.ir_core.specs.declared.op.End.TheVariants as ends
 use Rattle.ir_core.specs.declared.func.Instr.{Instr}
 use Rattle.ir_core.specs.declared.func.Block.{Block}
 use Rattle.ir_core.specs.declared.func.Func.{Func}
-use Rattle.ir_core.specs.declared.func.Param.{Param}
 use Rattle.ir_core.specs.Parts.{targets, instrs}
-use Rattle.ir_core.specs.Stands.{Ends, block_steps, steps}
-use Rattle.ir_core.specs.Formed as formed
+use Rattle.ir_core.specs.Stands.{Ends, steps}
 use Rattle.ir_core.specs.Formed.{IsBlock, IsEdge}
-use Rattle.ir_core.specs.Instructions.{phi, entry, switch_case, terminator, block_rows}
-use Rattle.ir_core.specs.Plain.{Numbers, other_entry, other_phi, other_case, other_end, renumbered, numbers, plain_body}
+use Rattle.ir_core.specs.Instructions.{entry}
+use Rattle.ir_core.specs.Plain.{other_entry, numbers, plain_body}
 use Rattle.ir_core.specs.Proper.{HasEntries, IsProperFunc, IsProper}
 use Rattle.ir_core.specs.Valid.{IsValid, IsValidFunc}
-use Rattle.ir_core.specs.ValidFunc.{LocalAt, block_locals_at, locals_at, IsLabel}
+use Rattle.ir_core.specs.ValidFunc.{IsLabel}
 use Rattle.ir_core.specs.ValidPaths.{HasGoodEntries}
-use Rattle.ir_core.proofs.Lists.{Has, has_at, contains, element, place, place_within, place_has, all_at, has_in, has_mapped}
-use Rattle.ir_core.proofs.SoundRules.{same_name}
+use Rattle.ir_core.proofs.Lists.{Has, has_at, contains, element, place, place_within, all_at, has_in, has_mapped}
 use Rattle.ir_safety.proofs.Safe.{NotFalse, in_turn}
 use Rattle.ir_safety.proofs.Elements.{own_place}
 use Rattle.ir_safety.proofs.Once.{label, labels_once}
@@ -54,7 +40,9 @@ module _ (m : Module) (proper : IsProper m) (valid : IsValid m) (g : ℕ) (f : F
   is_proper = all_at IsProperFunc m.funcs g f proper.each_func at
 
   has_entries : (b : Block) (entries : List Entry) (s : Source m f b entries) → Has f.blocks b → 0 < length s.pairs
-  has_entries b entries s h = subst HasEntries s.is_phi (All-contains (λ (i : Instr). HasEntries i.op) (instrs f) s.instr is_proper.entries (is_instr f b h s.instr s.stands))
+  has_entries b entries s h =
+      subst HasEntries s.is_phi
+      (All-contains (λ (i : Instr). HasEntries i.op) (instrs f) s.instr is_proper.entries (is_instr f b h s.instr s.stands))
 
   -- an entry of a phi of the entry block comes from a block before it, and there is none
   no_phi : (b : Block) → slice_get f.blocks 0 ≡ Some b → (q : Phi) → Has (row m f b).phis q → ⊥
@@ -87,7 +75,9 @@ module _ (m : Module) (proper : IsProper m) (valid : IsValid m) (g : ℕ) (f : F
       omega (arith, lt, same, n))
     where
       known : (k : Block) (x : LocalId) → Has f.blocks k → Has (targets k.end) x → NotFalse (IsLabel f x)
-      known k x hk hx bad = rules.references k.end_place (Ends k, contains (steps f) (Ends k) (ends f k hk), refl, inr (x, contains (targets k.end) x hx, bad))
+      known k x hk hx bad =
+          rules.references k.end_place
+          (Ends k, contains (steps f) (Ends k) (ends f k hk), refl, inr (x, contains (targets k.end) x hx, bad))
 
   -- where block c ends in a branch to block d, a phi of d has an entry from c
   entry_from : (a : ℕ) (c d : Block) (x : LocalId) (entries : List Entry) → slice_get f.blocks a ≡ Some c → Has (targets c.end) x → x ≡ d.label → Has f.blocks d

@@ -321,10 +321,15 @@ module _ (p : Program) (types : ℕ → ℕ → Scalar) (funcs : ℕ → FuncTyp
     starts c t = goes_on p types funcs (flat_start p input) refl (record { top = top; below = t.1; input = small })
       where
         none : c.0.params ≡ 0
-        none = let empty : length (funcs p.main).params ≡ 0 = ap length t.0 in let count = (safe.bodies p.main c.0 c.1).own_params.0 in omega (arith, empty, count)
+        none =
+            let empty : length (funcs p.main).params ≡ 0 = ap length t.0 in
+            let count = (safe.bodies p.main c.0 c.1).own_params.0 in
+            omega (arith, empty, count)
 
         top : Well None (flat_start p input).top
-        top = subst (λ (n : ℕ). Stands p types funcs None p.main 0 0 (λ q. at_most_one (slice_get (take n []) q))) none (enters p.main [] c (subst (AreOf []) (sym t.0) tt))
+        top =
+            subst (λ (n : ℕ). Stands p types funcs None p.main 0 0 (λ q. at_most_one (slice_get (take n []) q))) none
+            (enters p.main [] c (subst (AreOf []) (sym t.0) tt))
 
     started : NotFalse (Fine (flat_start p input))
     started = and_so safe.has_main (λ b. and_so safe.main_type (λ t. in_turn (safe.bodies p.main b.0 b.1).entry (λ e. starts (b.0, b.1, e) t)))

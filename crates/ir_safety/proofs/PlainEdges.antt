@@ -1,5 +1,5 @@
 -- The blocks and edges of a plain body are those of its function.
-use Rattle.std.proofs.Common.{◌≡◌, ◌≢◌, inl, inr, ℕ, zero, suc, List, [], ◌∷◌, ◌++◌, map, Some, slice_get, refl, sym, ap, ◌∙◌, subst}
+use Rattle.std.proofs.Common.{◌≡◌, inl, inr, ℕ, List, [], ◌∷◌, ◌++◌, map, Some, slice_get, refl, sym, ap, ◌∙◌, subst}
 use Rattle.std.specs.Option.{option_map}
 use Rattle.std.proofs.lemmas.Option.{slice_get-map}
 use Rattle.ir_core.specs.declared.flat.Case.{Case}
@@ -17,7 +17,7 @@ use Rattle.ir_core.specs.Formed.{IsBlock, IsEdge}
 use Rattle.ir_core.specs.Instructions.{switch_case, terminator, block_rows}
 use Rattle.ir_core.specs.Plain.{Numbers, other_case, other_end, renumbered, numbers, plain_body}
 use Rattle.ir_core.proofs.SoundRules.{same_name}
-use Rattle.ir_core.proofs.Lists.{Has, Apart, each_of, has_left, has_right, has_at, has_mapped, contains, has_in, element, mapped, place, place_within, place_has}
+use Rattle.ir_core.proofs.Lists.{Has, has_left, has_right, contains, has_in, mapped, place_has}
 
 -- ---- targets
 
@@ -74,7 +74,9 @@ module _ (m : Module) (n : Numbers) where
 
 -- a label with the number of a block is its own
 pub labelled : (f : Func) (n : ℕ) (b : Block) (x : LocalId) → slice_get f.blocks n ≡ Some b → (numbers f).block x.0 ≡ n → x ≡ b.label
-labelled f n b x at is = same_name x b.label (sym (place_has (λ (c : Block). c.label.0) f.blocks x.0 b (ap (slice_get f.blocks) is ∙ at)))
+labelled f n b x at is =
+    same_name x b.label
+    (sym (place_has (λ (c : Block). c.label.0) f.blocks x.0 b (ap (slice_get f.blocks) is ∙ at)))
 
 module _ (m : Module) (f : Func) where
   abbrev pub row : Block → FlatBlock

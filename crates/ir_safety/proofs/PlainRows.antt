@@ -1,6 +1,6 @@
 -- What the rows of a function's instructions write and use: the results that the instructions name, and their operands with their
 -- types.
-use Rattle.std.proofs.Common.{◌≡◌, ◌⊎◌, inl, inr, ℕ, Bool, false, bytes_eq, codes, List, [], ◌∷◌, map, Option, Some, None, refl, sym, subst}
+use Rattle.std.proofs.Common.{◌≡◌, ◌⊎◌, inl, inr, ℕ, false, bytes_eq, codes, List, [], ◌∷◌, map, Option, Some, None, refl, sym, subst}
 use Rattle.std.specs.Option.{option_map}
 use Rattle.std.proofs.lemmas.Bool.{cond_both}
 use Rattle.oi_base.specs.declared.ids.RegId.{RegId}
@@ -31,8 +31,10 @@ use Rattle.ir_core.specs.Formed.{of_result, written_by, used_by, used_at_end}
 use Rattle.ir_core.proofs.Lists.{Has, Each, each_map}
 
 -- a call is one of four instructions
-pub call_is : (m : Module) (d : Option RegId) (s : SymId) (args : List FlatOp) (Is : FlatInstr → Type 0) → Is (flat.Call d (record { 0 = func_number m s }) args) → Is (flat.Put d (first args)) → Is (flat.Get d)
-    → (is_defined m s ≡ false → bytes_eq (symbol_text m s) (codes "putchar") ≡ false → bytes_eq (symbol_text m s) (codes "getchar") ≡ false → Is (flat.Exit (first args))) → Is (call m d s args)
+pub call_is : (m : Module) (d : Option RegId) (s : SymId) (args : List FlatOp) (Is : FlatInstr → Type 0)
+    → Is (flat.Call d (record { 0 = func_number m s }) args) → Is (flat.Put d (first args)) → Is (flat.Get d)
+    → (is_defined m s ≡ false → bytes_eq (symbol_text m s) (codes "putchar") ≡ false
+    → bytes_eq (symbol_text m s) (codes "getchar") ≡ false → Is (flat.Exit (first args))) → Is (call m d s args)
 call_is m d s args Is inner put get exit =
     cond_both (is_defined m s) _ _ Is (λ e. inner) (λ e.
     cond_both (bytes_eq (symbol_text m s) (codes "putchar")) _ _ Is (λ p. put) (λ p.
@@ -113,7 +115,8 @@ module _ (m : Module) where
 
   call_row : (r : Option LocalId) (t : IrType) (s : SymId) (as' : List TypedOperand) → IsRow r (ops.Call t s as') (call m (option_map register r) s (map (typed m) as'))
   call_row r t s as' =
-      call_is m (option_map register r) s (map (typed m) as') (IsRow r (ops.Call t s as')) (of_register r, all_among as') (of_register r, first_among as') (of_register r, tt) (λ e p q. (tt, first_among as'))
+      call_is m (option_map register r) s (map (typed m) as') (IsRow r (ops.Call t s as'))
+      (of_register r, all_among as') (of_register r, first_among as') (of_register r, tt) (λ e p q. (tt, first_among as'))
 
   rows : (r : Option LocalId) (op : Op) → HasRow r op (instruction m r op)
   rows (Some d) (ops.Bin op t a b) = (refl, two (with_type t a) (with_type t b))

@@ -31,7 +31,9 @@ module _ (f : Func) (b : Block) (here : Has f.blocks b) where
   is_instr i h = contains (instrs f) i (has_part (λ (c : Block). c.code) f.blocks b i here h)
 
   pub does : (i : Instr) → Has b.code i → Has (steps f) (Does i)
-  does i h = has_part block_steps f.blocks b (Does i) here (has_left (map Does b.code) (Ends b ∷ []) (Does i) (has_mapped Does b.code i h))
+  does i h =
+      has_part block_steps f.blocks b (Does i) here
+      (has_left (map Does b.code) (Ends b ∷ []) (Does i) (has_mapped Does b.code i h))
 
   pub ends : Has (steps f) (Ends b)
   ends = has_part block_steps f.blocks b (Ends b) here (has_right (map Does b.code) (Ends b ∷ []) (Ends b) (inl refl))
@@ -92,7 +94,11 @@ module _ (m : Module) (f : Func) where
 
     -- its value is an operand of the phi
     pub value_of : (p : Pair) → Has s.pairs p → Has (op_operands s.instr.op) (with_type s.ty p.value)
-    value_of p h = subst (λ (o : Op). Has (op_operands o) (with_type s.ty p.value)) (sym s.is_phi) (has_mapped (λ (q : Pair). with_type s.ty q.value) s.pairs p h)
+    value_of p h =
+        subst (λ (o : Op). Has (op_operands o) (with_type s.ty p.value)) (sym s.is_phi)
+        (has_mapped (λ (q : Pair). with_type s.ty q.value) s.pairs p h)
 
     pub good_entries : IsValidFunc m f → Has f.blocks b → NotFalse (HasGoodEntries m.types.defs f b.label s.ty s.pairs)
-    good_entries rules here bad = rules.phis s.instr.place (b, s.instr, s.ty, s.pairs, contains f.blocks b here, contains b.code s.instr s.stands, refl, s.is_phi, bad)
+    good_entries rules here bad =
+        rules.phis s.instr.place
+        (b, s.instr, s.ty, s.pairs, contains f.blocks b here, contains b.code s.instr s.stands, refl, s.is_phi, bad)

@@ -1,6 +1,6 @@
 -- The registers of a function's plain body have the types of the parameters and results that they are, and its operands the types
 -- that are written with them.
-use Rattle.std.proofs.Common.{◌≡◌, ◌≢◌, ◌⊎◌, inl, inr, ℕ, zero, suc, ◌+◌, ◌<◌, ◌==◌, Bool, true, false, not, cond, List, [], ◌∷◌, ◌++◌, map, length, Option, Some, None, slice_get, refl, sym, ap, ◌∙◌, subst, arith}
+use Rattle.std.proofs.Common.{◌≡◌, ◌⊎◌, inl, inr, ℕ, zero, suc, ◌+◌, ◌<◌, ◌==◌, Bool, true, false, not, cond, List, [], ◌∷◌, ◌++◌, map, length, Option, Some, None, slice_get, refl, sym, ap, ◌∙◌, subst, arith}
 use Rattle.std.specs.Prelude.{unwrap_or}
 use Rattle.std.specs.List.{flat_map, filter_map, cons_option, position_or_len}
 use Rattle.std.specs.Option.{option_map}
@@ -101,7 +101,9 @@ types_told f = told (λ (x : Register). x.ty) (λ (q : Param). q.ty) (λ (i : In
 
 -- no two have one name
 named_once : (m : Module) (f : Func) → IsValidFunc m f → Apart (map number (all_registers f))
-named_once m f valid = subst Apart (ap (map (λ (x : LocalId). x.0)) (sym (names_told f)) ∙ mapped_twice (λ (x : LocalId). x.0) (λ (x : Register). x.name) (all_registers f)) (registers_once m f valid)
+named_once m f valid =
+    let same = ap (map (λ (x : LocalId). x.0)) (sym (names_told f)) ∙ mapped_twice (λ (x : LocalId). x.0) (λ (x : Register). x.name) (all_registers f) in
+    subst Apart same (registers_once m f valid)
 
 -- ---- the type of each
 
@@ -150,18 +152,22 @@ own_params f = (length-map f.params (λ (q : Param). scalar_of q.ty), λ q s e. 
 -- ---- the numbers of parameters
 
 -- a parameter has a number below theirs
-before_others : (ps : List Param) (ys : List LocalId) (q : Param) → Has ps q → position_or_len (is_local q.name.0) (map (λ (p : Param). p.name) ps ++ ys) < length ps
+before_others : (ps : List Param) (ys : List LocalId) (q : Param) → Has ps q
+    → position_or_len (is_local q.name.0) (map (λ (p : Param). p.name) ps ++ ys) < length ps
 before_others [] ys q h = absurd h
 before_others (p ∷ ps) ys q h = by_test (p.name.0 == q.name.0) refl (λ k. before_others ps ys q k) h
   where
-    by_test : (t : Bool) → (p.name.0 == q.name.0) ≡ t → (Has ps q → position_or_len (is_local q.name.0) (map (λ (p : Param). p.name) ps ++ ys) < length ps) → (p ≡ q) ⊎ Has ps q
+    by_test : (t : Bool) → (p.name.0 == q.name.0) ≡ t
+        → (Has ps q → position_or_len (is_local q.name.0) (map (λ (p : Param). p.name) ps ++ ys) < length ps) → (p ≡ q) ⊎ Has ps q
         → position_or_len (is_local q.name.0) (p.name ∷ (map (λ (p : Param). p.name) ps ++ ys)) < suc (length ps)
     by_test true t rest k = rw t (omega arith)
     by_test false t rest (inl same) = absurd (let k : p.name.0 ≡ q.name.0 = ap (λ (z : Param). z.name.0) same in grind (arith, nat_tests))
     by_test false t rest (inr k) = rw t (let lt = rest k in omega (arith, lt))
 
 pub param_first : (f : Func) (x : LocalId) → IsParam f x → (numbers f).reg x.0 < length f.params
-param_first f x q = subst (λ (y : LocalId). (numbers f).reg y.0 < length f.params) q.2 (before_others f.params (flat_map results f.blocks) q.0 (has_in f.params q.0 q.1))
+param_first f x q =
+    subst (λ (y : LocalId). (numbers f).reg y.0 < length f.params) q.2
+    (before_others f.params (flat_map results f.blocks) q.0 (has_in f.params q.0 q.1))
 
 -- ---- operands
 

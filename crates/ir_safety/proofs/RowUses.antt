@@ -1,5 +1,5 @@
 -- What the rows of a function's instructions use and write: the names that the instructions use, and their results.
-use Rattle.std.proofs.Common.{◌≡◌, ◌⊎◌, inl, inr, ℕ, Bool, true, false, if◌then◌else◌, bytes_eq, codes, List, [], ◌∷◌, map, Option, Some, None, Contains, refl, sym, ap, subst}
+use Rattle.std.proofs.Common.{◌≡◌, ◌⊎◌, inl, inr, ℕ, true, false, bytes_eq, codes, List, [], ◌∷◌, map, Option, Some, None, Contains, refl, sym, ap, subst}
 use Rattle.std.specs.List.{flat_map}
 use Rattle.std.specs.Option.{option_map}
 use Rattle.std.proofs.lemmas.List.Elements.{All-contains}
@@ -36,8 +36,8 @@ use Rattle.ir_core.specs.declared.func.Instr.{Instr}
 use Rattle.ir_core.specs.declared.func.Func.{Func}
 use Rattle.ir_core.specs.Stands.{op_operands, end_operands, symbol_text}
 use Rattle.ir_core.specs.Stands.{typed as with_type}
-use Rattle.ir_core.specs.Constants.{constant, zero_of, scalar_of, path, walk, joined, into, inside, element_of}
-use Rattle.ir_core.specs.Instructions.{register, operand, typed, index, first, func_number, instruction, phi, call, external_call, terminator}
+use Rattle.ir_core.specs.Constants.{constant, zero_of, scalar_of}
+use Rattle.ir_core.specs.Instructions.{register, operand, typed, instruction, phi, call, terminator}
 use Rattle.ir_core.specs.Formed.{of_result, written_by, used_by, used_at_end}
 use Rattle.ir_core.specs.Plain.{Numbers, other_reg, other_operand, other_term, other_instr, other_end}
 use Rattle.ir_core.specs.Proper.{HasItsResult, IsProperFunc}
@@ -78,7 +78,8 @@ module _ (m : Module) where
   -- so they are where the operands of rows are among operands with these values
   names_of : (as' : List TypedOperand) (vs : List Operand) (os : List FlatOp) → values_of as' ≡ vs → AreAmong m as' os → AreOf vs os
   names_of as' vs os same among x h =
-      subst (λ (ws : List Operand). Has (flat_map operand_locals ws) (record { 0 = x.0 })) same (by_operand (each_of (IsOneOf m as') os (Reg x) among h))
+      subst (λ (ws : List Operand). Has (flat_map operand_locals ws) (record { 0 = x.0 })) same
+      (by_operand (each_of (IsOneOf m as') os (Reg x) among h))
     where
       by_operand : IsOneOf m as' (Reg x) → Has (flat_map operand_locals (values_of as')) (record { 0 = x.0 })
       by_operand (inl e) = absurd cc
@@ -93,7 +94,8 @@ module _ (m : Module) where
   end_values_are : (e : End) → values_of (end_operands e) ≡ end_values e
   end_values_are (ends.Ret None) = refl
   end_values_are (ends.Ret (Some a)) = refl
-  end_values_are (ends.Switch a other cases) = ap (λ (vs : List Operand). a.value ∷ vs) (mapped_twice (λ (b : TypedOperand). b.value) (λ (c : SwitchCase). c.value) cases)
+  end_values_are (ends.Switch a other cases) =
+      ap (λ (vs : List Operand). a.value ∷ vs) (mapped_twice (λ (b : TypedOperand). b.value) (λ (c : SwitchCase). c.value) cases)
   end_values_are e = refl
 
   -- a row uses what its instruction uses
@@ -199,8 +201,13 @@ module _ (m : Module) where
       no_result : t ≡ Void → ⊥
       no_result e = let none : true ≡ false = subst (λ (u : IrType). HasItsResult (record { place = p; result = Some d; op = ops.Call u s as' })) e h in cc
 
-  pub result_row : (f : Func) → IsProperFunc f → IsValidFunc m f → (i : Instr) (d : LocalId) → Contains (instrs f) i → i.result ≡ Some d → NotFalse (HasRow m d i.result i.op)
-  result_row f proper rules i d stands e = subst (λ (r : Option LocalId). NotFalse (HasRow m d r i.op)) (sym e) (has_row i.place d i.op own (λ not. rules.calls i.place (i, stands, refl, not)))
+  pub result_row : (f : Func) → IsProperFunc f → IsValidFunc m f → (i : Instr) (d : LocalId) → Contains (instrs f) i
+      → i.result ≡ Some d → NotFalse (HasRow m d i.result i.op)
+  result_row f proper rules i d stands e =
+      subst (λ (r : Option LocalId). NotFalse (HasRow m d r i.op)) (sym e)
+      (has_row i.place d i.op own (λ not. rules.calls i.place (i, stands, refl, not)))
     where
       own : HasItsResult (record { place = i.place; result = Some d; op = i.op })
-      own = subst (λ (r : Option LocalId). HasItsResult (record { place = i.place; result = r; op = i.op })) e (All-contains HasItsResult (instrs f) i proper.results stands)
+      own =
+          subst (λ (r : Option LocalId). HasItsResult (record { place = i.place; result = r; op = i.op })) e
+          (All-contains HasItsResult (instrs f) i proper.results stands)

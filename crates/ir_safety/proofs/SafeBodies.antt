@@ -1,5 +1,5 @@
 -- The plain bodies of a proper and valid module are safe: all that has to be known of them, put together.
-use Rattle.std.proofs.Common.{◌≡◌, ℕ, List, [], ◌∷◌, length, Option, Some, None, slice_get, All, Contains, sym, ap, subst}
+use Rattle.std.proofs.Common.{◌≡◌, ℕ, List, [], ◌∷◌, length, Option, Some, slice_get, All, Contains, sym, ap, subst}
 use Rattle.std.specs.Option.{option_map_or}
 use Rattle.oi_base.specs.declared.words.Width.TheVariants.{W32}
 use Rattle.oi_base.specs.declared.ids.RegId.{RegId}
@@ -69,13 +69,15 @@ OfEach m P = (g : ℕ) (f : Func) → slice_get m.funcs g ≡ Some f → P f
 -- ---- the whole
 
 -- what holds of each plain body with the types of its function holds of what has that function's number
-pub placed : (m : Module) (P : (ℕ → Scalar) → FuncType → FlatBody → Type 0) (g : ℕ) (body : FlatBody) → ((f : Func) → slice_get m.funcs g ≡ Some f → P (func_types f) (func_type f) (plain_body m f))
+pub placed : (m : Module) (P : (ℕ → Scalar) → FuncType → FlatBody → Type 0) (g : ℕ) (body : FlatBody)
+    → ((f : Func) → slice_get m.funcs g ≡ Some f → P (func_types f) (func_type f) (plain_body m f))
     → (plain_program m).body g ≡ Some body → P (plain_types m g) (plain_funcs m g) body
 placed m P g body each e =
     let f = mapped (plain_body m) (slice_get m.funcs g) body e in
     let types : plain_types m g ≡ func_types f.0 = ap (λ (o : Option Func). option_map_or func_types o (λ (r : ℕ). scalar_of Void)) f.1 in
     subst (λ (ts : ℕ → Scalar). P ts (plain_funcs m g) body) (sym types)
-    (subst (λ (t : FuncType). P (func_types f.0) t body) (sym (type_at m g f.0 f.1)) (subst (P (func_types f.0) (func_type f.0)) f.2 (each f.0 f.1)))
+    (subst (λ (t : FuncType). P (func_types f.0) t body) (sym (type_at m g f.0 f.1))
+    (subst (P (func_types f.0) (func_type f.0)) f.2 (each f.0 f.1)))
 
 pub plain_bodies_safe : (m : Module) → IsProper m → IsValid m → ((f : Func) → OwnParams f) → OfEach m (PhiTypes m) → OfEach m (CodeTypes m) → OfEach m (EndTypes m) → OfEach m (FirstByCode m)
     → OfEach m (FirstByEnd m) → OfEach m (FirstByPhi m) → HasMain m → MainType m → AllCalled m → IsSafe (plain_program m) (plain_types m) (plain_funcs m)
