@@ -58,13 +58,13 @@ comes_located g2 f h = record { from = λ s u b t r. (let q = (h (place_of r.2) 
 -- the first form is read as another one, whose value is made from its own
 comes_as : {A A2 B C : Type 0} {Stands : C → B → Type 0} {g : A → Form B} (g2 : A2 → Form C) (f : Form A) (f2 : Form A2) (made : List Piece → A → A2) → ((s : Names) (u : List Piece) (a : A) (t : Names) → f.reads s u a t → f2.reads s u (made u a) t) →
     ((u : List Piece) (a : A) → Comes Stands (g a) (g2 (made u a))) → Comes Stands (f >>= g) (f2 >>= g2)
-comes_as g2 f f2 made l h = record { from = λ s u b t r. (let q = (h r.2 r.0).from r.1 r.3 b t r.6 in (q.0, (made r.2 r.0, r.1, r.2, r.3, r.4, l s r.2 r.0 r.1 r.5, q.1), q.2)) }
+comes_as g2 f f2 made k h = record { from = λ s u b t r. (let q = (h r.2 r.0).from r.1 r.3 b t r.6 in (q.0, (made r.2 r.0, r.1, r.2, r.3, r.4, k s r.2 r.0 r.1 r.5, q.1), q.2)) }
 
 -- the first form is read as another one, whose value says its own
 comes_first : {A A2 B C : Type 0} {Stands : C → B → Type 0} {g2 : A2 → Form C} (g : A → Form B) (f : Form A) (f2 : Form A2) (first : A2 → A) → Comes (λ y a. first y ≡ a) f f2 → ((y : A2) → Comes Stands (g (first y)) (g2 y)) → Comes Stands (f >>= g) (f2 >>= g2)
-comes_first g f f2 first l h = record {
+comes_first g f f2 first k h = record {
   from = λ s u b t r.
-      (let p = l.from s r.2 r.0 r.1 r.5 in
+      (let p = k.from s r.2 r.0 r.1 r.5 in
       let q = (h p.0).from r.1 r.3 b t (subst (λ a. (g a).reads r.1 r.3 b t) (sym p.2) r.6) in
       (q.0, (p.0, r.1, r.2, r.3, r.4, p.1, q.1), q.2));
 }
@@ -74,7 +74,7 @@ comes_ret {A = A} {B = B} {Stands = Stands} b h = record { from = λ s u x t r. 
 
 -- another value
 comes_mapped : {A B C : Type 0} {Stands : C → A → Type 0} {Means : C → B → Type 0} {f : Form A} {g : Form C} (h : A → B) → Comes Stands f g → ((c : C) (a : A) → Stands c a → Means c (h a)) → Comes Means (f >>= λ a. ret (h a)) g
-comes_mapped {A = A} {B = B} {C = C} {Stands = Stands} {Means = Means} {f = f} {g = g} h l e = record { from = λ s u b t r. at s u b t r (l.from s r.2 r.0 r.1 r.5) }
+comes_mapped {A = A} {B = B} {C = C} {Stands = Stands} {Means = Means} {f = f} {g = g} h k e = record { from = λ s u b t r. at s u b t r (k.from s r.2 r.0 r.1 r.5) }
   where
     at : (s : Names) (u : List Piece) (b : B) (t : Names) (r : (f >>= λ a. ret (h a)).reads s u b t) → (c : C) × g.reads s r.2 c r.1 × Stands c r.0 → (c : C) × g.reads s u c t × Means c b
     at s u b t r q =

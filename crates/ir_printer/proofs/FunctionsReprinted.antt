@@ -126,7 +126,7 @@ record Within {A B : Type 0} (names : List (List ℕ)) (h : B → A) (f : Form A
   to : (s : Names) (u : List Piece) (a : A) (t : Names) → f.reads s u a t → t.locals ≡ names → (b : B) × g.reads s u b t × (h b ≡ a)
 
 within_then : {A B C : Type 0} {names : List (List ℕ)} {h : C → B} {g : A → Form B} {g2 : A → Form C} (f : Form A) → ((a : A) → Within names h (g a) (g2 a)) → Within names h (f >>= g) (f >>= g2)
-within_then f l = record { to = λ s u b t r e. (let q = (l r.0).to r.1 r.3 b t r.6 e in (q.0, (r.0, r.1, r.2, r.3, r.4, r.5, q.1), q.2)) }
+within_then f k = record { to = λ s u b t r e. (let q = (k r.0).to r.1 r.3 b t r.6 e in (q.0, (r.0, r.1, r.2, r.3, r.4, r.5, q.1), q.2)) }
 
 -- the names are those at the end
 with_names : {A B : Type 0} (names : List (List ℕ)) (h : B → A) (make : List (List ℕ) → B) → Within names h (act locals_so_far >>= λ n. ret (h (make n))) (ret (make names))

@@ -58,7 +58,7 @@ reprinted_nothing inside n g s a silent = record {
 pub as_quiet : {A B : Type 0} {inside : Bool} {n : Tables} {image : A → B} {g : Form B} {all : B → List Mark} (f : Form A) → Quiet f → ((s : Names) (u : List Piece) (a : A) (t : Names) → f.reads s u a t → AreSound u → IsReprinted inside n g s (image a) s (all (image a))) → PrintsAs inside n image f g [] all
 as_quiet {inside = inside} {n = n} {image = image} {g = g} {all = all} f quiet h = record {
   indexed = λ s u a t r i. subst Indexed (quiet.same s u a t r) i;
-  fronts = λ s u a t r l. subst (λ (x : Names). Front inside n x) (sym (quiet.same s u a t r)) l;
+  fronts = λ s u a t r k. subst (λ (x : Names). Front inside n x) (sym (quiet.same s u a t r)) k;
   prints = λ s u a t r front sound. (all (image a), refl, subst (λ (x : Names). IsReprinted inside n g s (image a) x (all (image a))) (quiet.same s u a t r) (h s u a t r sound));
 }
 

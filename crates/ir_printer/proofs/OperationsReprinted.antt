@@ -47,8 +47,8 @@ cut_choice : {A B : Type 0} (z : Set) (f : Form A) (g h : A → Form B) (s : Nam
 cut_choice {A = A} {B = B} z f g h s u b t r = at r.6
   where
     at : ((g r.0).reads r.1 r.3 b t ⊎ (h r.0).reads r.1 r.3 b t) → (f >>= g).reads s u b t ⊎ (f >>= h).reads s u b t
-    at (inl l) = inl (r.0, r.1, r.2, r.3, r.4, r.5, l)
-    at (inr l) = inr (r.0, r.1, r.2, r.3, r.4, r.5, l)
+    at (inl k) = inl (r.0, r.1, r.2, r.3, r.4, r.5, k)
+    at (inr k) = inr (r.0, r.1, r.2, r.3, r.4, r.5, k)
 
 -- notes behind the last part
 pub prints_noted : {A : Type 0} {inside : Bool} {n : Tables} {a : A} {before : List Mark} {all : A → List Mark} → all a ≡ before → Prints inside n (notes >>= λ e. ret a) (notes >>= λ e. ret a) before all

@@ -68,24 +68,24 @@ abbrev known_of : ℕ → ℕ → Known
 known_of symbols types = record { symbols = symbols; types = types }
 
 -- a line without names
-no_more_known : (l : Known) → known_behind l no_demand ≡ l
-no_more_known l = ap₂ known_of (max_zero l.symbols) (max_zero l.types)
+no_more_known : (k : Known) → known_behind k no_demand ≡ k
+no_more_known k = ap₂ known_of (max_zero k.symbols) (max_zero k.types)
 
-fitted_alone : (symbols : List (List ℕ)) (es : List Entity) (l : Known) → Fitted symbols l es → Fitted symbols l (alone es)
-fitted_alone symbols [] l h = tt
-fitted_alone symbols (TargetLine w said ∷ es) l h = fitted_alone symbols es l (subst (λ (l : Known). Fitted symbols l es) (no_more_known l) h.1)
-fitted_alone symbols (DefinedType d ∷ es) l h = (h.0, fitted_alone symbols es _ h.1)
-fitted_alone symbols (Variable g ∷ es) l h = (h.0, fitted_alone symbols es _ h.1)
-fitted_alone symbols (Definition f ∷ es) l h = (h.0, fitted_alone symbols es _ h.1)
-fitted_alone symbols (Declared d ∷ es) l h = (h.0, fitted_alone symbols es _ h.1)
+fitted_alone : (symbols : List (List ℕ)) (es : List Entity) (k : Known) → Fitted symbols k es → Fitted symbols k (alone es)
+fitted_alone symbols [] k h = tt
+fitted_alone symbols (TargetLine w said ∷ es) k h = fitted_alone symbols es k (subst (λ (l : Known). Fitted symbols l es) (no_more_known k) h.1)
+fitted_alone symbols (DefinedType d ∷ es) k h = (h.0, fitted_alone symbols es _ h.1)
+fitted_alone symbols (Variable g ∷ es) k h = (h.0, fitted_alone symbols es _ h.1)
+fitted_alone symbols (Definition f ∷ es) k h = (h.0, fitted_alone symbols es _ h.1)
+fitted_alone symbols (Declared d ∷ es) k h = (h.0, fitted_alone symbols es _ h.1)
 
-known_alone : (symbols : List (List ℕ)) (es : List Entity) (l : Known) → known_after symbols l (alone es) ≡ known_after symbols l es
-known_alone symbols [] l = refl
-known_alone symbols (TargetLine w said ∷ es) l = known_alone symbols es l ∙ ap (λ (l : Known). known_after symbols l es) (sym (no_more_known l))
-known_alone symbols (DefinedType d ∷ es) l = known_alone symbols es _
-known_alone symbols (Variable g ∷ es) l = known_alone symbols es _
-known_alone symbols (Definition f ∷ es) l = known_alone symbols es _
-known_alone symbols (Declared d ∷ es) l = known_alone symbols es _
+known_alone : (symbols : List (List ℕ)) (es : List Entity) (k : Known) → known_after symbols k (alone es) ≡ known_after symbols k es
+known_alone symbols [] k = refl
+known_alone symbols (TargetLine w said ∷ es) k = known_alone symbols es k ∙ ap (λ (l : Known). known_after symbols l es) (sym (no_more_known k))
+known_alone symbols (DefinedType d ∷ es) k = known_alone symbols es _
+known_alone symbols (Variable g ∷ es) k = known_alone symbols es _
+known_alone symbols (Definition f ∷ es) k = known_alone symbols es _
+known_alone symbols (Declared d ∷ es) k = known_alone symbols es _
 
 -- ---- the lines of the layout and of the triple
 
@@ -132,8 +132,8 @@ module _ (symbols : List (List ℕ)) (P : Entity → Type 0) (layout triple : Op
 
   -- one line first
   every_line : (w : Word) (o : Option (List ℕ)) (xs : List Entity) → ((said : List ℕ) → o ≡ Some said → P (TargetLine w said)) → Every P xs → Every P (target_line w o ++ xs)
-  every_line w None xs h l = l
-  every_line w (Some said) xs h l = (h said refl, l)
+  every_line w None xs h k = k
+  every_line w (Some said) xs h k = (h said refl, k)
 
   fitted_line : (w : Word) (o : Option (List ℕ)) (xs : List Entity) → Fitted symbols nothing_known xs → Fitted symbols nothing_known (target_line w o ++ xs)
   fitted_line w None xs h = h
