@@ -16,7 +16,11 @@ use Rattle.ir_core.specs.declared.func.Func.{Func}
 use Rattle.ir_core.specs.Parts.{op_callee, instrs, is_defined, sites}
 use Rattle.call_graph.specs.declared.sites.Site.{Site}
 use Rattle.call_graph.specs.Sites.{is_named, site_of, block_sites, func_sites, sites_from, all_sites}
-use Rattle.call_graph.specs.Walk.{IsSorted, AreCalls}
+use Rattle.strong_components.specs.declared.edge.Edge.{Edge}
+use Rattle.strong_components.specs.Walk.{IsSorted, AreEdges}
+use Rattle.call_graph.specs.Edges.{edge_of, edges_of}
+use Rattle.call_graph.proofs.Nodes.{edge_site}
+use Rattle.strong_components.proofs.Sorted.{append_cases}
 
 -- ---- what holds of every element
 
@@ -112,12 +116,11 @@ between funcs n (f ∷ fs) = every_append (Between funcs n (n + suc (length fs))
     (λ s h. let l = h.from in let b = h.below in record { from = omega (arith, l); below = omega (arith, b); callee = h.callee })
     (between funcs (n + 1) fs))
 
-append_cases : {A : Type 0} (xs ys : List A) (i : ℕ) (y : A) → slice_get (xs ++ ys) i ≡ Some y → (slice_get xs i ≡ Some y) ⊎ ((j : ℕ) × (i ≡ length xs + j) × (slice_get ys j ≡ Some y))
-append_cases [] ys i y e = inr (i, omega arith, e)
-append_cases (x ∷ xs) ys zero y e = inl e
-append_cases (x ∷ xs) ys (suc i) y e = ⊎_elim (λ h. inl h) (λ h. let s = h.1 in inr (h.0, omega (arith, s), h.2)) (append_cases xs ys i y e)
+-- callers ascend
+abbrev Ascend : List Site → Type 0
+Ascend sites = (i j : ℕ) (s t : Site) → i ≤ j → slice_get sites i ≡ Some s → slice_get sites j ≡ Some t → s.caller.0 ≤ t.caller.0
 
-sorted : (funcs : List Func) (n : ℕ) (fs : List Func) → IsSorted (sites_from funcs n fs)
+sorted : (funcs : List Func) (n : ℕ) (fs : List Func) → Ascend (sites_from funcs n fs)
 sorted funcs n [] i j s t le es et = absurd (let clash : None ≡ Some s = es in cc)
 sorted funcs n (f ∷ fs) i j s t le es et = by_parts (append_cases here rest i s es) (append_cases here rest j t et) (sorted funcs (n + 1) fs)
   where
@@ -130,21 +133,30 @@ sorted funcs n (f ∷ fs) i j s t le es et = by_parts (append_cases here rest i 
     at_n : (k : ℕ) (x : Site) → slice_get here k ≡ Some x → x.caller.0 ≡ n
     at_n k x e = ap (λ (c : FuncId). c.0) (every_at (IsSiteOf funcs (record { 0 = n })) here k x (func_made funcs (record { 0 = n }) f) e).0
 
-    behind : (k : ℕ) (x : Site) → slice_get rest k ≡ Some x → n + 1 ≤ x.caller.0
-    behind k x e = (every_at (Between funcs (n + 1) (n + 1 + length fs)) rest k x (between funcs (n + 1) fs) e).from
+    after : (k : ℕ) (x : Site) → slice_get rest k ≡ Some x → n + 1 ≤ x.caller.0
+    after k x e = (every_at (Between funcs (n + 1) (n + 1 + length fs)) rest k x (between funcs (n + 1) fs) e).from
 
-    by_parts : (slice_get here i ≡ Some s) ⊎ ((k : ℕ) × (i ≡ length here + k) × (slice_get rest k ≡ Some s)) → (slice_get here j ≡ Some t) ⊎ ((k : ℕ) × (j ≡ length here + k) × (slice_get rest k ≡ Some t)) → IsSorted rest → s.caller.0 ≤ t.caller.0
+    by_parts : (slice_get here i ≡ Some s) ⊎ ((k : ℕ) × (i ≡ length here + k) × (slice_get rest k ≡ Some s)) → (slice_get here j ≡ Some t) ⊎ ((k : ℕ) × (j ≡ length here + k) × (slice_get rest k ≡ Some t)) → Ascend rest → s.caller.0 ≤ t.caller.0
     by_parts (inl x) (inl y) later = let a = at_n i s x in let b = at_n j t y in omega (arith, a, b)
-    by_parts (inl x) (inr y) later = let a = at_n i s x in let b = behind y.0 t y.2 in omega (arith, a, b)
+    by_parts (inl x) (inr y) later = let a = at_n i s x in let b = after y.0 t y.2 in omega (arith, a, b)
     by_parts (inr x) (inl y) later = let w = slice_get_within here j t y in let e = x.1 in absurd (omega (arith, w, e, le))
     by_parts (inr x) (inr y) later = let a = x.1 in let b = y.1 in later x.0 y.0 s t (omega (arith, a, b, le)) x.2 y.2
 
-pub sites_are_calls : (funcs : List Func) → AreCalls (length funcs) (all_sites funcs)
-sites_are_calls funcs = record {
-  callers = λ k s e. let b = (every_at (Between funcs 0 (0 + length funcs)) (all_sites funcs) k s (between funcs 0 funcs) e).below in omega (arith, b);
-  callees = λ k s e. (every_at (Between funcs 0 (0 + length funcs)) (all_sites funcs) k s (between funcs 0 funcs) e).callee;
-  sorted = sorted funcs 0 funcs;
+pub sites_are_edges : (funcs : List Func) (n : ℕ) → n ≡ length funcs → AreEdges n (edges_of (all_sites funcs))
+sites_are_edges funcs n all = record {
+  tails = λ k e at. let s = edge_site (all_sites funcs) k e at in let b = (sites s.0 k s.1).below in let same : s.0.caller.0 ≡ e.from = ap Edge.from s.2 in omega (arith, b, same, all);
+  heads = λ k e at. let s = edge_site (all_sites funcs) k e at in let b = (sites s.0 k s.1).callee in let same : s.0.callee.0 ≡ e.to = ap Edge.to s.2 in omega (arith, b, same, all);
+  sorted = λ i j d e le id je.
+      let s = edge_site (all_sites funcs) i d id in
+      let t = edge_site (all_sites funcs) j e je in
+      let up = sorted funcs 0 funcs i j s.0 t.0 le s.1 t.1 in
+      let a : s.0.caller.0 ≡ d.from = ap Edge.from s.2 in
+      let b : t.0.caller.0 ≡ e.from = ap Edge.from t.2 in
+      omega (arith, up, a, b);
 }
+  where
+    sites : (s : Site) (k : ℕ) → slice_get (all_sites funcs) k ≡ Some s → Between funcs 0 (0 + length funcs) s
+    sites s k at = every_at (Between funcs 0 (0 + length funcs)) (all_sites funcs) k s (between funcs 0 funcs) at
 
 -- ---- how many there are
 

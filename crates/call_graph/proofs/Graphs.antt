@@ -7,47 +7,47 @@ use Rattle.ir_core.specs.declared.func.Func.{Func}
 use Rattle.ir_core.specs.declared.module.Module.{Module}
 use Rattle.ir_core.specs.Proper.{IsProper}
 use Rattle.call_graph.specs.declared.sites.Site.{Site}
-use Rattle.call_graph.specs.declared.walk.Mark.{Mark}
-use Rattle.call_graph.specs.declared.walk.Mark.TheVariants.{Unseen, Open, Closed}
+use Rattle.strong_components.specs.declared.walk.Mark.{Mark}
+use Rattle.strong_components.specs.declared.walk.Mark.TheVariants.{Unseen, Open, Closed}
 use Rattle.call_graph.specs.declared.facts.FuncFacts.{FuncFacts}
 use Rattle.call_graph.specs.declared.facts.SiteFacts.{SiteFacts}
 use Rattle.call_graph.specs.Sites.{Leads, stays, goes, all_sites, IsExternal, IsReached, MayBeInlined, IsCandidate}
-use Rattle.call_graph.specs.Walk.{AreComponents, IsClosedUpTo}
-use Rattle.call_graph.specs.Facts.{is_closed, mark_at, func_facts, may_be_inlined, are_apart, is_candidate, site_facts}
+use Rattle.strong_components.specs.Chains.{IsRootIn}
+use Rattle.strong_components.specs.Walk.{AreComponents, IsClosedUpTo}
+use Rattle.strong_components.proofs.Falling.{closed_or}
+use Rattle.strong_components.proofs.Falling.{falls as edges_fall}
+use Rattle.call_graph.specs.Edges.{edge_of, edges_of, are_external}
+use Rattle.call_graph.proofs.Nodes.{site_edge, edges_lead, sites_lead, root_external, external_root, as_many}
+use Rattle.strong_components.specs.Marks.{mark_at}
+use Rattle.call_graph.specs.Facts.{is_closed, func_facts, may_be_inlined, are_apart, is_candidate, site_facts}
 use Rattle.call_graph.specs.Graph.{Graph, IsGraph}
 use Rattle.call_graph.proofs.AllSites.{count_sites}
 
-module _ (funcs : List Func) (marks : List Mark) (comps : AreComponents (length funcs) (all_sites funcs) (IsExternal funcs) marks) where
+-- the components of a module's functions
+abbrev pub AreOfSites : List Func → List Mark → Type 0
+AreOfSites funcs marks = AreComponents (length (are_external funcs)) (edges_of (all_sites funcs)) (IsRootIn (are_external funcs)) marks
+
+module _ (funcs : List Func) (marks : List Mark) (comps : AreOfSites funcs marks) where
   abbrev sites : List Site
   sites = all_sites funcs
 
   -- a chain of sites never leads to a component with a greater number
   falls : {u v : ℕ} → Leads sites u v → (c : ℕ) → mark_at marks u ≡ Closed c → (d : ℕ) × (mark_at marks v ≡ Closed d) × (d ≤ c)
-  falls (stays f) c e = (c, e, omega arith)
-  falls (goes s f has l) c e = by_mark (mark_at marks s.callee.0) refl (comps.sites_fall s.caller.0 c has.0 s e (slice_get_read sites (length sites) has.0 s refl has.1 (sym has.2)) refl) (falls l)
-    where
-      by_mark : (m : Mark) → mark_at marks s.callee.0 ≡ m → IsClosedUpTo (length funcs) sites (IsExternal funcs) c m → ((c : ℕ) → mark_at marks s.callee.0 ≡ Closed c → (d : ℕ) × (mark_at marks f ≡ Closed d) × (d ≤ c)) → (d : ℕ) × (mark_at marks f ≡ Closed d) × (d ≤ c)
-      by_mark Unseen m h rest = absurd h
-      by_mark (Open p) m h rest = absurd h
-      by_mark (Closed b) m h rest = let r = rest b m in let le = r.2 in (r.0, r.1, omega (arith, le, h))
-
-  closed_or : (f : ℕ) → mark_at marks f ≢ Unseen → (c : ℕ) × (mark_at marks f ≡ Closed c)
-  closed_or f h = by_mark (mark_at marks f) refl
-    where
-      by_mark : (m : Mark) → mark_at marks f ≡ m → (c : ℕ) × (mark_at marks f ≡ Closed c)
-      by_mark Unseen e = absurd (h e)
-      by_mark (Open p) e = absurd (comps.none_open f p e)
-      by_mark (Closed c) e = (c, e)
+  falls l c e = edges_fall (length (are_external funcs)) (edges_of sites) (IsRootIn (are_external funcs)) marks comps (edges_lead l) c e
 
   reached_closed : (f : ℕ) → IsReached funcs f → (c : ℕ) × (mark_at marks f ≡ Closed c)
   reached_closed f h =
       let external = h.1 in
-      let root = closed_or h.0 (comps.roots h.0 (slice_get_within funcs h.0 external.0 external.1) external) in
+      let n = as_many funcs in
+      let w = slice_get_within funcs h.0 external.0 external.1 in
+      let root = closed_or (length (are_external funcs)) (edges_of sites) (IsRootIn (are_external funcs)) marks comps h.0 (comps.roots h.0 (omega (arith, w, n)) (external_root funcs h.0 external)) in
       let r = falls h.2 root.0 root.1 in
       (r.0, r.1)
 
   closed_reached : (f c : ℕ) → mark_at marks f ≡ Closed c → IsReached funcs f
-  closed_reached f c e = comps.reached f (λ u. let clash : Closed c ≡ Unseen = sym e ∙ u in cc)
+  closed_reached f c e =
+      let r = comps.reached f (λ u. let clash : Closed c ≡ Unseen = sym e ∙ u in cc) in
+      (r.0, root_external funcs r.0 r.1, sites_lead r.2)
 
   -- ---- functions
 
@@ -123,9 +123,9 @@ module _ (funcs : List Func) (marks : List Mark) (comps : AreComponents (length 
       by_test false t = refl
 
   callee_closed : (k : ℕ) (s : Site) (c : ℕ) → slice_get sites k ≡ Some s → mark_at marks s.caller.0 ≡ Closed c → (d : ℕ) × (mark_at marks s.callee.0 ≡ Closed d) × (d ≤ c)
-  callee_closed k s c at e = by_mark (mark_at marks s.callee.0) refl (comps.sites_fall s.caller.0 c k s e at refl)
+  callee_closed k s c at e = by_mark (mark_at marks s.callee.0) refl (comps.edges_fall s.caller.0 c k (edge_of s) e (site_edge sites k s at) refl)
     where
-      by_mark : (m : Mark) → mark_at marks s.callee.0 ≡ m → IsClosedUpTo (length funcs) sites (IsExternal funcs) c m → (d : ℕ) × (mark_at marks s.callee.0 ≡ Closed d) × (d ≤ c)
+      by_mark : (m : Mark) → mark_at marks s.callee.0 ≡ m → IsClosedUpTo (length (are_external funcs)) (edges_of sites) (IsRootIn (are_external funcs)) c m → (d : ℕ) × (mark_at marks s.callee.0 ≡ Closed d) × (d ≤ c)
       by_mark Unseen m h = absurd h
       by_mark (Open p) m h = absurd h
       by_mark (Closed d) m h = (d, m, h)
@@ -154,7 +154,7 @@ module _ (funcs : List Func) (marks : List Mark) (comps : AreComponents (length 
   candidate_from free k s at h =
       let c = reached_closed s.caller.0 h.reached in
       let d = callee_closed k s c.0 at c.1 in
-      let apart : c.0 ≢ d.0 = λ same. h.no_cycle (comps.joined s.callee.0 s.caller.0 d.0 d.1 (c.1 ∙ ap Closed same)) in
+      let apart : c.0 ≢ d.0 = λ same. h.no_cycle (sites_lead (comps.joined s.callee.0 s.caller.0 d.0 d.1 (c.1 ∙ ap Closed same))) in
       rw (c.1, d.1, apart_from c.0 d.0 apart) (may_from free s.callee.0 h.may)
 
   pub is_graph : (free : Bool) → IsGraph funcs free (record { funcs = func_facts marks 0 funcs; sites = site_facts funcs marks free sites })
@@ -194,7 +194,7 @@ few_sites m proper = let a = count_sites m in let b = proper.site_count in omega
 
 module _ (free : Bool) (funcs : List Func) where
   pub whole_graph : (them : List Site) (marks first last : List Mark) (fs : List FuncFacts) (ss : List SiteFacts) → them ≡ all_sites funcs → first ≡ marks → last ≡ marks
-      → AreComponents (length funcs) (all_sites funcs) (IsExternal funcs) marks → fs ≡ func_facts last 0 funcs → ss ≡ site_facts funcs first free them → IsGraph funcs free (record { funcs = fs; sites = ss })
+      → AreOfSites funcs marks → fs ≡ func_facts last 0 funcs → ss ≡ site_facts funcs first free them → IsGraph funcs free (record { funcs = fs; sites = ss })
   whole_graph them marks first last fs ss e2 e3 e4 comps ef es =
       let f_is : fs ≡ func_facts marks 0 funcs = ef ∙ ap (λ x. func_facts x 0 funcs) e4 in
       let s_is : ss ≡ site_facts funcs marks free (all_sites funcs) = es ∙ ap (λ x. site_facts funcs x free them) e3 ∙ ap (site_facts funcs marks free) e2 in

@@ -1,6 +1,4 @@
-pub mod Walking
-pub mod Turning
-pub mod Walked
+pub mod Nodes
 pub mod AllSites
 pub mod Graphs
 pub mod Cycles

@@ -1,10 +1,11 @@
 -- What the components of a call graph say of functions and sites.
-use Rattle.std.specs.Prelude.{ℕ, ◌+◌, ◌==◌, Bool, true, false, not, ◌&&◌, ◌||◌, List, [], ◌∷◌, map, slice_get, slice_index_or}
+use Rattle.std.specs.Prelude.{ℕ, ◌+◌, ◌==◌, Bool, true, false, not, ◌&&◌, ◌||◌, List, [], ◌∷◌, map, slice_get}
 use Rattle.std.specs.Option.{option_map_or}
 use Rattle.ir_core.specs.declared.func.Func.{Func}
 use Rattle.call_graph.specs.declared.sites.Site.{Site}
-use Rattle.call_graph.specs.declared.walk.Mark.{Mark}
-use Rattle.call_graph.specs.declared.walk.Mark.TheVariants.{Unseen, Open, Closed}
+use Rattle.strong_components.specs.declared.walk.Mark.{Mark}
+use Rattle.strong_components.specs.declared.walk.Mark.TheVariants.{Unseen, Open, Closed}
+use Rattle.strong_components.specs.Marks.{mark_at}
 use Rattle.call_graph.specs.declared.facts.FuncFacts.{FuncFacts}
 use Rattle.call_graph.specs.declared.facts.SiteFacts.{SiteFacts}
 
@@ -12,9 +13,6 @@ abbrev pub is_closed : Mark → Bool
 is_closed Unseen = false
 is_closed (Open p) = false
 is_closed (Closed c) = true
-
-abbrev pub mark_at : List Mark → ℕ → Mark
-mark_at marks f = slice_index_or marks f Unseen
 
 -- functions from a position on
 abbrev pub func_facts : List Mark → ℕ → List Func → List FuncFacts

@@ -1,5 +1,5 @@
 pub mod Sites
 pub mod Table
-pub mod Walk
+pub mod Edges
 pub mod Facts
 pub mod Graph

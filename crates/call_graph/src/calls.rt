@@ -5,8 +5,8 @@ ghost use Rattle.oi_base.specs.declared.ids.SiteId as site_id;
 ghost use Rattle.oi_base.specs.Ascending.{IsAscending};
 ghost use Rattle.call_graph.specs.Graph.{IsGraph, IsNumber, SiteIs, IsCandidateOf, candidate_ids};
 
+use crate::description::describe;
 use crate::facts::{FuncFacts, SiteFacts, candidates};
-use crate::said::describe;
 use ir_core::Verified;
 use oi_base::{FuncId, NoMemory, Place, SiteId};
 use std::alloc::Global;
@@ -24,6 +24,7 @@ pub struct CallGraph {
 
 impl Model for CallGraph {
     ghost use Rattle.std.specs.Prelude.{◌≡◌, ◌≤◌, length};
+    ghost use Rattle.ir_core.specs.declared.limits.TheConstants as limits;
     ghost use Rattle.call_graph.specs.Graph as graphs;
 
     ghost Value = { graphs.Graph };
@@ -32,7 +33,7 @@ impl Model for CallGraph {
 
     ghost view = { λ g. record { funcs = g.funcs.items; sites = g.sites.items } };
 
-    ghost invariant = { λ g. (g.candidates.items ≡ graphs.candidates_from 1 g.sites.items) × (length g.funcs.items ≤ 4096) × (length g.sites.items ≤ 4096) };
+    ghost invariant = { λ g. (g.candidates.items ≡ graphs.candidates_from 1 g.sites.items) × (length g.funcs.items ≤ limits.MOST_FUNCTIONS) × (length g.sites.items ≤ limits.MOST_SITES) };
 }
 
 /// The call graph of a module. Where `free` is true, `noinline` on a function has no effect. The time is linear in the
@@ -41,11 +42,11 @@ pub fn graph(alloc: Global, v: &Verified, free: bool) -> Result<CallGraph, NoMem
     ensures { IfOk result (λ g. IsGraph v.now.funcs free g) }
 {
     let module = v.module();
-    let said = describe(alloc, module.funcs.as_slice(), free)?;
+    let description = describe(alloc, module.funcs.as_slice(), free)?;
     Ok(CallGraph {
-        candidates: candidates(alloc, said.sites.as_slice())?,
-        funcs: said.funcs,
-        sites: said.sites,
+        candidates: candidates(alloc, description.sites.as_slice())?,
+        funcs: description.funcs,
+        sites: description.sites,
     })
 }
 

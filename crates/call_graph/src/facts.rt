@@ -1,12 +1,12 @@
 ghost use Rattle.std.specs.Prelude.{◌≡◌, ◌≤◌, ◌<◌, length, IfOk};
-ghost use Rattle.call_graph.specs.Facts.{mark_at, is_closed, func_facts, are_apart, may_be_inlined, is_candidate, site_facts};
+ghost use Rattle.call_graph.specs.Facts.{is_closed, func_facts, are_apart, may_be_inlined, is_candidate, site_facts};
 ghost use Rattle.call_graph.specs.Graph.{candidates_from};
 
 use crate::sites::Site;
-use crate::walk::Mark;
-use ir_core::Func;
+use ir_core::{Func, MOST_SITES};
 use oi_base::{NoMemory, SiteId};
 use std::alloc::Global;
+use strong_components::{Mark, mark_at};
 
 /// What is said of a function.
 #[derive(Clone, Copy)]
@@ -58,7 +58,7 @@ pub fn site_facts(
 
 /// The numbers of the candidates, from 1.
 pub fn candidates(alloc: Global, facts: &[SiteFacts]) -> Result<Vec<SiteId>, NoMemory>
-    requires { length facts.now ≤ 4096 }
+    requires { length facts.now ≤ MOST_SITES }
     ensures { IfOk result (λ ids. ids.items ≡ candidates_from 1 facts.now) }
 {
     let mut ids = Vec::new(alloc);
@@ -94,15 +94,6 @@ fn may_be_inlined(funcs: &[Func], free: bool, f: usize) -> bool
     match funcs.get(f) {
         Some(func) => free || !func.noinline,
         None => false,
-    }
-}
-
-fn mark_at(marks: &[Mark], f: usize) -> Mark
-    ensures { result ≡ mark_at marks.now f }
-{
-    match marks.get(f) {
-        Some(mark) => *mark,
-        None => Mark::Unseen,
     }
 }
 

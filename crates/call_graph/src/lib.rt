@@ -2,15 +2,14 @@
 #![tactic(auto)]
 
 mod calls;
+mod description;
+mod edges;
 mod facts;
 mod functions;
 mod laws;
-mod said;
 mod sites;
-mod starts;
 #[cfg(test)]
 mod tests;
-mod walk;
 
 pub use calls::{CallGraph, graph};
 pub use functions::Functions;

@@ -1,5 +1,5 @@
+use crate::description::describe;
 use crate::facts::{FuncFacts, candidates};
-use crate::said::describe;
 use ir_core::{Block, End, Func, Instr, IrType, LocalId, Op, Short, SymId};
 use oi_base::{Items, NoMemory, Place, SiteId};
 use std::alloc::{AllocError, Global};

@@ -12,7 +12,7 @@ use Rattle.std.proofs.lemmas.Str.Parse.{digit_from_value}
 use Rattle.oi_base.specs.declared.ids.SiteId.{SiteId}
 use Rattle.decisions.specs.declared.maps.Label.{Label}
 use Rattle.decisions.specs.declared.maps.Label.TheVariants.{Keep, Inline}
-use Rattle.decisions.specs.Text.{line_of}
+use Rattle.decisions.specs.Text.{line_of, site_numbers}
 use Rattle.decisions.specs.Reading.{site_before_space, is_line_of, entry_of}
 use Rattle.decisions.proofs.Lookups.{same_site}
 
@@ -36,10 +36,10 @@ space_at (c ∷ cs) rest h = rw (no_space c cs h) (grind (arith, space_at cs res
 pub take-space : (ds rest : List ℕ) → AllDigits 10 ds → take_while (λ b. not (b == 32)) (ds ++ 32 ∷ rest) ≡ ds
 take-space ds rest h = rw (space_at ds rest h) (take-append-le (length ds) ds (32 ∷ rest) (omega arith) ∙ take_all (length ds) ds (omega arith))
 
-digits_of_number : (n : ℕ) → n < 4294967296 → AllDigits 10 (decimal n) × (digits_value 10 (decimal n) ≡ n)
+digits_of_number : (n : ℕ) → n < site_numbers → AllDigits 10 (decimal n) × (digits_value 10 (decimal n) ≡ n)
 digits_of_number n lt = let p = decimal_is_IsNumeral n (omega arith) in (p.0.1, p.1)
 
-site_of_line : (s : SiteId) (l : Label) → s.0 < 4294967296 → site_before_space (line_of (s, l)) ≡ s
+site_of_line : (s : SiteId) (l : Label) → s.0 < site_numbers → site_before_space (line_of (s, l)) ≡ s
 site_of_line s l lt =
     let p = digits_of_number s.0 lt in
     same_site (site_before_space (line_of (s, l))) s (ap (λ (x : List ℕ). digits_value 10 (take_while (λ b. not (b == 32)) x)) (line_is s l) ∙ ap (λ (x : List ℕ). digits_value 10 x) (take-space (decimal s.0) (after_space l) p.0) ∙ p.1)
@@ -52,10 +52,10 @@ one_label s e =
     let same : length (line_of (s, Inline)) ≡ length (line_of (s, Keep)) = ap (λ (x : List ℕ). length x) e in
     omega arith
 
-is_line_true : (s : SiteId) (l : Label) → s.0 < 4294967296 → is_line_of (line_of (s, l)) (s, l) ≡ true
+is_line_true : (s : SiteId) (l : Label) → s.0 < site_numbers → is_line_of (line_of (s, l)) (s, l) ≡ true
 is_line_true s l lt =
     let same : bytes_eq (line_of (s, l)) (line_of (s, l)) ≡ true = (bytes_eq-Decides (line_of (s, l)) (line_of (s, l))).1 refl in
-    let below : nat_lt s.0 4294967296 ≡ true = grind (arith, nat_tests) in
+    let below : nat_lt s.0 site_numbers ≡ true = grind (arith, nat_tests) in
     rw (below, same) refl
 
 abbrev pick : SiteId → Bool → Bool → Option (SiteId × Label)
@@ -74,43 +74,43 @@ entry_by : (line : List ℕ) (t : SiteId) (o : Option (SiteId × Label)) → sit
 unfolding entry_of
 entry_by line t o e h = subst (λ (t : SiteId). pick t (is_line_of line (t, Keep)) (is_line_of line (t, Inline)) ≡ o) (sym e) h
 
-picked : (s : SiteId) (l : Label) → s.0 < 4294967296 → pick s (is_line_of (line_of (s, l)) (s, Keep)) (is_line_of (line_of (s, l)) (s, Inline)) ≡ Some (s, l)
+picked : (s : SiteId) (l : Label) → s.0 < site_numbers → pick s (is_line_of (line_of (s, l)) (s, Keep)) (is_line_of (line_of (s, l)) (s, Inline)) ≡ Some (s, l)
 picked s Keep lt = chosen s _ _ Keep (λ e. is_line_true s Keep lt) (λ e. cc)
 picked s Inline lt = chosen s _ _ Inline (λ e. cc) (λ e. (not_keep s _ _ refl, is_line_true s Inline lt))
 
-pub entry_of_line : (s : SiteId) (l : Label) → s.0 < 4294967296 → entry_of (line_of (s, l)) ≡ Some (s, l)
+pub entry_of_line : (s : SiteId) (l : Label) → s.0 < site_numbers → entry_of (line_of (s, l)) ≡ Some (s, l)
 entry_of_line s l lt = entry_by (line_of (s, l)) s (Some (s, l)) (site_of_line s l lt) (picked s l lt)
 
-found : (line : List ℕ) (e : SiteId × Label) → is_line_of line e ≡ true → (e.0.0 < 4294967296) × (line ≡ line_of e)
+found : (line : List ℕ) (e : SiteId × Label) → is_line_of line e ≡ true → (e.0.0 < site_numbers) × (line ≡ line_of e)
 found line e h = (grind (arith, nat_tests), (bytes_eq-Decides line (line_of e)).0 (grind (arith, nat_tests)))
 
-neither : (line : List ℕ) (s : SiteId) (keep inline : Bool) → is_line_of line (s, Keep) ≡ keep → is_line_of line (s, Inline) ≡ inline → ((s : SiteId) (l : Label) → s.0 < 4294967296 → line ≢ line_of (s, l)) → pick s keep inline ≡ None
+neither : (line : List ℕ) (s : SiteId) (keep inline : Bool) → is_line_of line (s, Keep) ≡ keep → is_line_of line (s, Inline) ≡ inline → ((s : SiteId) (l : Label) → s.0 < site_numbers → line ≢ line_of (s, l)) → pick s keep inline ≡ None
 neither line s true inline k i never = let f = found line (s, Keep) k in absurd (never s Keep f.0 f.1)
 neither line s false true k i never = let f = found line (s, Inline) i in absurd (never s Inline f.0 f.1)
 neither line s false false k i never = refl
 
-pub no_entry : (line : List ℕ) → ((s : SiteId) (l : Label) → s.0 < 4294967296 → line ≢ line_of (s, l)) → entry_of line ≡ None
+pub no_entry : (line : List ℕ) → ((s : SiteId) (l : Label) → s.0 < site_numbers → line ≢ line_of (s, l)) → entry_of line ≡ None
 unfolding entry_of
 no_entry line never = neither line (site_before_space line) _ _ refl refl never
 
 -- what is read is a line
-some_of : (line : List ℕ) (s : SiteId) (keep inline : Bool) → is_line_of line (s, Keep) ≡ keep → is_line_of line (s, Inline) ≡ inline → (e : SiteId × Label) → pick s keep inline ≡ Some e → (e.0.0 < 4294967296) × (line ≡ line_of e)
-some_of line s true inline k i e h = let same : (s, Keep) ≡ e = cc in subst (λ (e : SiteId × Label). (e.0.0 < 4294967296) × (line ≡ line_of e)) same (found line (s, Keep) k)
-some_of line s false true k i e h = let same : (s, Inline) ≡ e = cc in subst (λ (e : SiteId × Label). (e.0.0 < 4294967296) × (line ≡ line_of e)) same (found line (s, Inline) i)
+some_of : (line : List ℕ) (s : SiteId) (keep inline : Bool) → is_line_of line (s, Keep) ≡ keep → is_line_of line (s, Inline) ≡ inline → (e : SiteId × Label) → pick s keep inline ≡ Some e → (e.0.0 < site_numbers) × (line ≡ line_of e)
+some_of line s true inline k i e h = let same : (s, Keep) ≡ e = cc in subst (λ (e : SiteId × Label). (e.0.0 < site_numbers) × (line ≡ line_of e)) same (found line (s, Keep) k)
+some_of line s false true k i e h = let same : (s, Inline) ≡ e = cc in subst (λ (e : SiteId × Label). (e.0.0 < site_numbers) × (line ≡ line_of e)) same (found line (s, Inline) i)
 some_of line s false false k i e h = cc
 
-pub line_of_entry : (line : List ℕ) (e : SiteId × Label) → entry_of line ≡ Some e → (e.0.0 < 4294967296) × (line ≡ line_of e)
+pub line_of_entry : (line : List ℕ) (e : SiteId × Label) → entry_of line ≡ Some e → (e.0.0 < site_numbers) × (line ≡ line_of e)
 unfolding entry_of
 line_of_entry line e h = some_of line (site_before_space line) _ _ refl refl e h
 
-pub entry_given : (line : List ℕ) (s : SiteId) (l : Label) → s.0 < 4294967296 → line ≡ line_of (s, l) → entry_of line ≡ Some (s, l)
+pub entry_given : (line : List ℕ) (s : SiteId) (l : Label) → s.0 < site_numbers → line ≡ line_of (s, l) → entry_of line ≡ Some (s, l)
 entry_given line s l lt e = ap (λ (x : List ℕ). entry_of x) e ∙ entry_of_line s l lt
 
 pub never_other : (line : List ℕ) (t s : SiteId) (l : Label) (keep inline : Bool) → (line ≡ line_of (t, Keep) → keep ≡ true) → (line ≡ line_of (t, Inline) → inline ≡ true) → keep ≡ false → inline ≡ false → t ≡ s → line ≡ line_of (s, l) → ⊥
 never_other line t s Keep keep inline k i not_keep not_inline same e = let h = k (e ∙ ap (λ (x : SiteId). line_of (x, Keep)) (sym same)) in false≢true (sym not_keep ∙ h)
 never_other line t s Inline keep inline k i not_keep not_inline same e = let h = i (e ∙ ap (λ (x : SiteId). line_of (x, Inline)) (sym same)) in false≢true (sym not_inline ∙ h)
 
-pub number_part : (line : List ℕ) (s : SiteId) (l : Label) (n : ℕ) → s.0 < 4294967296 → line ≡ line_of (s, l) → n ≡ position_or_len (λ b. b == 32) line → take n line ≡ decimal s.0
+pub number_part : (line : List ℕ) (s : SiteId) (l : Label) (n : ℕ) → s.0 < site_numbers → line ≡ line_of (s, l) → n ≡ position_or_len (λ b. b == 32) line → take n line ≡ decimal s.0
 number_part line s l n lt e place =
     let digits = digits_of_number s.0 lt in
     let is : line ≡ decimal s.0 ++ 32 ∷ after_space l = e ∙ line_is s l in

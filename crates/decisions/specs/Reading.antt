@@ -8,7 +8,7 @@ use Rattle.decisions.specs.declared.maps.Label.TheVariants.{Keep, Inline}
 use Rattle.decisions.specs.declared.faults.DecisionFault.{DecisionFault}
 use Rattle.decisions.specs.declared.faults.DecisionFault.TheVariants.{BadLine, NotCandidate, Twice, Missing}
 use Rattle.decisions.specs.Maps.{label_of}
-use Rattle.decisions.specs.Text.{line_of, text_of}
+use Rattle.decisions.specs.Text.{line_of, text_of, site_numbers}
 
 -- the lines of a text, each with the line feed that ends it; the last may lack it
 abbrev pub lines_of : List ℕ → List (List ℕ)
@@ -21,7 +21,7 @@ site_before_space line = record { 0 = digits_value 10 (take_while (λ b. not (b 
 
 -- the line is the one of this site and label, and the number has 32 bits
 abbrev pub is_line_of : List ℕ → SiteId × Label → Bool
-is_line_of line e = nat_lt e.0.0 4294967296 && bytes_eq line (line_of e)
+is_line_of line e = nat_lt e.0.0 site_numbers && bytes_eq line (line_of e)
 
 -- the site and label whose line this is
 unfoldable pub entry_of : List ℕ → Option (SiteId × Label)
@@ -59,7 +59,7 @@ first_fault candidates bytes = fault_from candidates [] 1 (lines_of bytes)
 
 -- each site's number has 32 bits
 abbrev pub HaveWords : List SiteId → Type 0
-HaveWords sites = (s : SiteId) → is_among sites s ≡ true → s.0 < 4294967296
+HaveWords sites = (s : SiteId) → is_among sites s ≡ true → s.0 < site_numbers
 
 -- no site comes twice
 abbrev pub HasNoRepeats : List (SiteId × Label) → Type 0

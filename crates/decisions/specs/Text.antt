@@ -4,6 +4,10 @@ use Rattle.oi_base.specs.declared.ids.SiteId.{SiteId}
 use Rattle.decisions.specs.declared.maps.Label.{Label}
 use Rattle.decisions.specs.declared.maps.Label.TheVariants.{Keep, Inline}
 
+-- how many numbers there are for sites: those of 32 bits
+abbrev pub site_numbers : ℕ
+site_numbers = 4294967296
+
 abbrev pub word_of : Label → List ℕ
 word_of Keep = codes "keep"
 word_of Inline = codes "inline"

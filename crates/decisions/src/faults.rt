@@ -2,7 +2,6 @@ ghost use Rattle.std.specs.Prelude.{◌≡◌};
 ghost use Rattle.decisions.specs.declared.faults.DecisionFault.TheVariants.{NoMemory};
 
 use oi_base::SiteId;
-use std::alloc::{AllocError, AllocFailed};
 use thiserror::Error;
 
 /// Why a text is no map over the candidates. Lines are numbered from 1.
@@ -23,22 +22,6 @@ pub enum DecisionFault {
     /// Memory ran out.
     #[error("out of memory")]
     NoMemory,
-}
-
-impl From<AllocError> for DecisionFault {
-    ghost from_gives = { λ _ e. e ≡ NoMemory };
-
-    fn from(_error: AllocError) -> DecisionFault {
-        DecisionFault::NoMemory
-    }
-}
-
-impl<T: Drop> From<AllocFailed<T>> for DecisionFault {
-    ghost from_gives = { λ _ e. e ≡ NoMemory };
-
-    fn from(_error: AllocFailed<T>) -> DecisionFault {
-        DecisionFault::NoMemory
-    }
 }
 
 impl From<oi_base::NoMemory> for DecisionFault {

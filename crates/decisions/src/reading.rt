@@ -5,7 +5,7 @@ ghost use Rattle.decisions.specs.declared.faults.DecisionFault.TheVariants as fa
 ghost use Rattle.decisions.specs.declared.maps.Label.{Label};
 ghost use Rattle.decisions.specs.Maps.{sites_of, decided};
 ghost use Rattle.oi_base.specs.Ascending.{IsAscending};
-ghost use Rattle.decisions.specs.Text.{line_of};
+ghost use Rattle.decisions.specs.Text.{line_of, site_numbers};
 ghost use Rattle.decisions.specs.Reading.{lines_of, entry_of, first_fault, HaveWords, IsTextOf};
 ghost use Rattle.decisions.specs.Steps.{Takes, first_undecided};
 ghost use Rattle.decisions.specs.Ends.{end_of};
@@ -24,7 +24,7 @@ pub fn read_decisions(
     candidates: &[SiteId],
 ) -> Result<Decisions, DecisionFault>
     requires ascending { IsAscending candidates.now }
-    requires short { length bytes.now < 4294967295 }
+    requires short { length bytes.now < u32.MAX }
 
     ensures sites { IfOk result (λ d. sites_of d ≡ candidates.now) }
     ensures text { IfOk result (IsTextOf bytes.now) }
@@ -47,7 +47,7 @@ pub fn read_decisions(
 
 /// Where the first line ends: after its line feed, or at the end of the text.
 fn line_end(bytes: &[u8]) -> usize
-    requires { length bytes.now < 4294967295 }
+    requires { length bytes.now < u32.MAX }
     ensures end { result ≡ end_of bytes.now }
     ensures within { result ≤ length bytes.now }
 {
@@ -133,8 +133,8 @@ fn is_line(alloc: Global, line: &[u8], s: SiteId, l: Label) -> Result<bool, NoMe
 /// The site whose number stands before the first space, where it has one.
 #[tactic(auto, unfolding(crate::specs::Text::line_of))]
 fn leading_site(line: &[u8]) -> Option<SiteId>
-    ensures below { IfSome result (λ s. s.0 < 4294967296) }
-    ensures site { (s : SiteId) (l : Label) → s.0 < 4294967296 → line.now ≡ line_of (s, l) → result ≡ Some s }
+    ensures below { IfSome result (λ s. s.0 < site_numbers) }
+    ensures site { (s : SiteId) (l : Label) → s.0 < site_numbers → line.now ≡ line_of (s, l) → result ≡ Some s }
 {
     match number(&line[..place_of_byte(line, b' ')]) {
         Some(n) => Some(SiteId(n)),
@@ -144,7 +144,7 @@ fn leading_site(line: &[u8]) -> Option<SiteId>
 
 /// The number of a word, where it has one. It is for the caller to see how the number is written.
 fn number(word: &[u8]) -> Option<u32>
-    ensures { (n : ℕ) → n < 4294967296 → word.now ≡ decimal n → result ≡ Some n }
+    ensures { (n : ℕ) → n < site_numbers → word.now ≡ decimal n → result ≡ Some n }
 {
     match str::from_utf8(word) {
         Ok(text) => match text.parse::<u32>() {

@@ -1,4 +1,5 @@
 -- A file whose checks pass is laid out as the file of an image.
+use Rattle.elf_object.specs.declared.image.TheConstants.{LARGEST_TABLES}
 use Rattle.std.proofs.Common.{◌≡◌, ℕ, ◌+◌, ◌/◌, ◌%◌, ◌<◌, ◌≤◌, eqb, leb, List, ◌++◌, length, refl, ◌∙◌, subst, arith, length-append}
 use Rattle.std.proofs.lemmas.Bool.{eqb-true, leb-true, and_parts}
 use Rattle.elf_object.specs.declared.elf32.Ehdr.{Ehdr}
@@ -10,12 +11,12 @@ use Rattle.elf_object.specs.Elf32.{fields_bytes, span, ehdr_fields, phdr_fields,
 use Rattle.elf_object.specs.Layout.{text_at, data_at, symtab_at, shstrtab_at, sections_at, executable, text_segment, data_segment, section_names, null_section, text_section, data_section, symtab_section, strtab_section, shstrtab_section}
 use Rattle.elf_object.specs.File.{header, segments, sections}
 use Rattle.elf_object.specs.Checks.{first_failed, field_checks, shoff, sizes, loaded_sizes, info, wanted_text_segment, wanted_data_segment, wanted_symtab_section, wanted_strtab_section, program_checks, linking_section_checks, front_checks, layout_checks, header_checks, loaded_section_checks, gap_checks, IsEnded, IsLaidOut}
-use Rattle.elf_object.proofs.Checking.{passes}
-use Rattle.elf_object.proofs.Sizing.{length_passed, end_passed, place_passed}
+use Rattle.elf_object.proofs.CheckLaws.{passes}
+use Rattle.elf_object.proofs.PassedChecks.{length_passed, end_passed, place_passed}
 use Rattle.elf_object.proofs.SizeLaws.{AreLoaded, are_loaded, AreLinked, are_linked, wanted_text-is, wanted_data-is, wanted_symtab-is, wanted_strtab-is}
 use Rattle.elf_object.proofs.Places.{data_after, symtab_after, strtab_is, shstrtab_is, sections_after}
-use Rattle.elf_object.proofs.Holding.{IsBytes, HasPart, HasZeros, both}
-use Rattle.elf_object.proofs.Fielding.{first_pass, second_pass, checks_here, length-fields_bytes, zeros_here}
+use Rattle.elf_object.proofs.PartLaws.{IsBytes, HasPart, HasZeros, both}
+use Rattle.elf_object.proofs.FieldLaws.{first_pass, second_pass, checks_here, length-fields_bytes, zeros_here}
 
 -- ---- the sizes of headers
 
@@ -62,7 +63,7 @@ pub length-section_names : length section_names ≡ 39
 unfolding section_names
 length-section_names = refl
 
--- six parts of 40 bytes behind each other
+-- six parts of 40 bytes after each other
 pub six_here : (file : List ℕ) (at : ℕ) (a b c d e f : List ℕ) → length a ≡ 40 → length b ≡ 40 → length c ≡ 40 → length d ≡ 40 → length e ≡ 40
     → HasPart file at a → HasPart file (at + 40) b → HasPart file (at + 80) c → HasPart file (at + 120) d → HasPart file (at + 160) e → HasPart file (at + 200) f
     → HasPart file at (a ++ b ++ c ++ d ++ e ++ f)
@@ -173,7 +174,7 @@ pub is_laid_out : (file : List ℕ) → HasFrame file → IsLaidOut file
 is_laid_out file h =
     let symtab = and_parts (eqb ((sizes file).symtab % 16) 0) (leb 16 (sizes file).symtab) h.linked.symtab in
     let first = and_parts (leb 1 (info file)) (leb (info file) ((sizes file).symtab / 16)) h.linked.info in
-    let strtab = and_parts (leb 1 (sizes file).strtab) (leb ((sizes file).symtab + (sizes file).strtab) 1073741824) h.linked.strtab in
+    let strtab = and_parts (leb 1 (sizes file).strtab) (leb ((sizes file).symtab + (sizes file).strtab) LARGEST_TABLES) h.linked.strtab in
     record {
       ended = h.ended;
       place = h.place;

@@ -1,4 +1,4 @@
--- The parts of the file stand behind each other.
+-- The parts of the file stand after each other.
 use Rattle.std.proofs.Common.{◌≡◌, ℕ, zero, suc, ◌+◌, ◌-◌, ◌*◌, ◌/◌, ◌%◌, ◌<◌, ◌≤◌, List, length, refl, sym, ap, arith}
 use Rattle.elf_object.specs.declared.layout.Sizes.{Sizes}
 use Rattle.elf_object.specs.declared.symbol.Symbol.{Symbol}
@@ -46,7 +46,7 @@ has_tables file s is h = rw is (record {
   strtab_size = h.strtab;
 })
 
--- as many symbols as the table has entries behind the first
+-- as many symbols as the table has entries after the first
 pub length-symbols_at : (file table : List ℕ) (at name_at locals n : ℕ) → length (symbols_at file table at name_at locals n) ≡ n
 unfolding symbols_at
 length-symbols_at file table at name_at locals zero = refl

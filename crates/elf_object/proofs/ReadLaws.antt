@@ -7,13 +7,13 @@ use Rattle.elf_object.specs.Image.{Parts, IsImage, HasWords}
 use Rattle.elf_object.specs.Layout.{text_at, data_at}
 use Rattle.elf_object.specs.File.{elf}
 use Rattle.elf_object.specs.Checks.{first_failed, sizes, image, front_checks, layout_checks, table_checks, checks, Answers, IsLaidOut}
-use Rattle.elf_object.proofs.Checking.{Answer, passes, fails, passed, failed}
+use Rattle.elf_object.proofs.CheckLaws.{Answer, passes, fails, passed, failed}
 use Rattle.elf_object.proofs.Places.{data_after, symtab_after, strtab_is, shstrtab_is, sections_after}
-use Rattle.elf_object.proofs.Holding.{IsBytes}
-use Rattle.elf_object.proofs.Fielding.{first_pass, second_pass, both_pass}
+use Rattle.elf_object.proofs.PartLaws.{IsBytes}
+use Rattle.elf_object.proofs.FieldLaws.{first_pass, second_pass, both_pass}
 use Rattle.elf_object.proofs.LayoutLaws.{has_frame, is_laid_out}
-use Rattle.elf_object.proofs.FoundLaws.{is_found}
-use Rattle.elf_object.proofs.AgainLaws.{is_again}
+use Rattle.elf_object.proofs.FoundImage.{is_found}
+use Rattle.elf_object.proofs.RereadLaws.{is_again}
 
 -- a reading that failed
 abbrev pub failed_read : ElfFault → Result Parts ElfFault

@@ -7,9 +7,9 @@ use Rattle.elf_object.specs.declared.fault.ElfField.TheVariants as fields
 use Rattle.elf_object.specs.Elf32.{phdr_fields, shdr_fields}
 use Rattle.elf_object.specs.Layout.{data_at, text_segment, data_segment, symtab_section, strtab_section}
 use Rattle.elf_object.specs.Checks.{first_failed, word_at, permitted, is_text_size, is_data_size, is_symtab_size, is_first_global, is_strtab_size, shoff, sizes, loaded_sizes, info, wanted_text_segment, wanted_data_segment, wanted_symtab_section, wanted_strtab_section, program_checks, linking_section_checks}
-use Rattle.elf_object.proofs.Checking.{passes}
-use Rattle.elf_object.proofs.Holding.{IsBytes}
-use Rattle.elf_object.proofs.Fielding.{first_pass, second_pass, AreRight, are_right, word_small}
+use Rattle.elf_object.proofs.CheckLaws.{passes}
+use Rattle.elf_object.proofs.PartLaws.{IsBytes}
+use Rattle.elf_object.proofs.FieldLaws.{first_pass, second_pass, AreRight, are_right, word_small}
 
 pub segment_size : (file : List ℕ) (at : ℕ) (h : Phdr) → AreRight file at (phdr_fields h) → word_at file (at + 16) ≡ h.p_filesz
 unfolding phdr_fields

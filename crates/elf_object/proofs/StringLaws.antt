@@ -35,7 +35,7 @@ string_no_zero table at = All-from_get_or (λ b. b ≢ 0) (string_at table at) 0
       let here : get_or (string_at table at) i 0 ≡ get_or (drop at table) i 0 = get_or_string table at i (omega arith) in
       eqb-false _ _ (fails_before_first is_zero (drop at table) i 0 (omega arith)) (sym here ∙ e)
 
--- a string that ends within the table stands there with a zero byte behind it
+-- a string that ends within the table stands there with a zero byte after it
 pub string_ends : (table : List ℕ) (at : ℕ) → at + length (string_at table at) < length table → drop at table ≡ string_at table at ++ 0 ∷ drop (at + length (string_at table at) + 1) table
 unfolding string_at
 string_ends table at lt =
@@ -46,7 +46,7 @@ string_ends table at lt =
     let rest : drop (n + 1) (drop at table) ≡ drop (at + length (take n (drop at table)) + 1) table = drop-drop (n + 1) at table ∙ ap (λ (k : ℕ). drop k table) (omega arith) in
     split_at_first is_zero (drop at table) 0 within ∙ ap (λ (y : ℕ). take n (drop at table) ++ y ∷ drop (n + 1) (drop at table)) z ∙ ap (λ (ys : List ℕ). take n (drop at table) ++ 0 ∷ ys) rest
 
--- a name that stands there with a zero byte behind it is the string there
+-- a name that stands there with a zero byte after it is the string there
 pub string_is : (table : List ℕ) (at : ℕ) (name rest : List ℕ) → All (λ b. b ≢ 0) name → drop at table ≡ name ++ 0 ∷ rest → string_at table at ≡ name
 unfolding string_at
 string_is table at name rest no_zero e =
@@ -56,6 +56,6 @@ string_is table at name rest no_zero e =
     (λ lt. ap is_zero (get_or_at name 0 rest 0 (length name) refl)) in
     ap (λ (xs : List ℕ). take (position_or_len is_zero xs) xs) e ∙ ap (λ (n : ℕ). take n (name ++ 0 ∷ rest)) whole ∙ take_at name (0 ∷ rest) (length name) refl
 
--- the place behind it
+-- the place after it
 pub place_is : (size at : ℕ) (name : List ℕ) → at + length name < size → place_after size at name ≡ at + length name + 1
 place_is size at name lt = omega arith

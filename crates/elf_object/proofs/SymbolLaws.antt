@@ -14,11 +14,11 @@ use Rattle.elf_object.specs.Image.{IsNamed, HasWords, IsLocalFirst}
 use Rattle.elf_object.specs.Elf32.{fields_bytes, sym_fields, span}
 use Rattle.elf_object.specs.File.{info_of, section_of, entry, entries_bytes}
 use Rattle.elf_object.specs.Checks.{Check, first_failed, byte_at, word_at, field_checks, string_at, place_after, symbol_at, symbols_at, entry_checks, name_check, name_checks}
-use Rattle.elf_object.proofs.Checking.{passes}
+use Rattle.elf_object.proofs.CheckLaws.{passes}
 use Rattle.elf_object.proofs.Symbols.{names, ended}
-use Rattle.elf_object.proofs.Sizing.{holds, one_passes}
-use Rattle.elf_object.proofs.Holding.{HasPart, IsBytes, both, left, right, has_nothing}
-use Rattle.elf_object.proofs.Fielding.{first_pass, second_pass, both_pass, checks_here, checks_pass, AreFit, fields_right, length-fields_bytes}
+use Rattle.elf_object.proofs.PassedChecks.{holds, one_passes}
+use Rattle.elf_object.proofs.PartLaws.{HasPart, IsBytes, both, left, right, has_nothing}
+use Rattle.elf_object.proofs.FieldLaws.{first_pass, second_pass, both_pass, checks_here, checks_pass, AreFit, fields_right, length-fields_bytes}
 use Rattle.elf_object.proofs.StringLaws.{string_no_zero, string_ends, string_is, place_is}
 
 -- ---- what passed checks say
@@ -87,7 +87,7 @@ are_found file table bytes start at name_at locals (suc n) le within entries_ok 
 suc_not_zero : (n : ℕ) → eqb (suc n) 0 ≡ false
 suc_not_zero n = ne_eqb _ _ (λ e. absurd (omega (arith, e)))
 
--- behind the local symbols stand global ones
+-- after the local symbols stand global ones
 all_global : (file table : List ℕ) (at name_at n : ℕ) → AllByRecursion (λ t. IsTrue t.global) (symbols_at file table at name_at 0 n)
 unfolding symbols_at symbol_at
 all_global file table at name_at zero = tt

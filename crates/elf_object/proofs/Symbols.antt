@@ -7,11 +7,11 @@ use Rattle.elf_object.specs.declared.symbol.Symbol.{Symbol}
 use Rattle.elf_object.specs.Elf32.{fields_bytes, sym_fields}
 use Rattle.elf_object.specs.File.{entry, entries_bytes}
 
--- a name with a zero byte behind it
+-- a name with a zero byte after it
 abbrev pub ended : Symbol → List ℕ
 ended s = s.name ++ 0 ∷ []
 
--- the names, each with a zero byte behind it
+-- the names, each with a zero byte after it
 abbrev pub names : List Symbol → List ℕ
 names symbols = flat_map ended symbols
 

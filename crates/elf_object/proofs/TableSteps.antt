@@ -11,7 +11,7 @@ use Rattle.elf_object.specs.declared.fault.ElfField.TheVariants as fields
 use Rattle.elf_object.specs.Elf32.{sym_fields}
 use Rattle.elf_object.specs.File.{entry}
 use Rattle.elf_object.specs.Checks.{first_failed, field_checks, place_after, string_at, symbol_at, symbols_at, entry_checks, name_check, name_checks}
-use Rattle.elf_object.proofs.Checking.{Answer, passes, fails, passed_in, failed_in}
+use Rattle.elf_object.proofs.CheckLaws.{Answer, passes, fails, passed_in, failed_in}
 use Rattle.elf_object.proofs.Symbols.{drop_at}
 
 -- ---- the first place that passes

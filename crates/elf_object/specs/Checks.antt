@@ -13,6 +13,8 @@ use Rattle.elf_object.specs.declared.fault.ElfFault.TheVariants as faults
 use Rattle.elf_object.specs.declared.layout.Sizes.{Sizes}
 use Rattle.elf_object.specs.declared.symbol.Symbol.{Symbol}
 use Rattle.elf_object.specs.declared.symbol.SymKind.TheVariants.{Func, Object}
+use Rattle.elf_object.specs.declared.image.TheConstants.{LEAST_TEXT, LARGEST_TEXT, LARGEST_DATA, LARGEST_TABLES}
+use Rattle.elf_object.specs.declared.reading.TheConstants.{NO_WORD}
 use Rattle.elf_object.specs.Image.{Parts}
 use Rattle.elf_object.specs.Elf32.{size_of, number_of, ehdr_fields, phdr_fields, shdr_fields, sym_fields}
 use Rattle.elf_object.specs.Layout.{segments_at, text_at, data_at, symtab_at, strtab_at, shstrtab_at, sections_at, executable, text_segment, data_segment, section_names, null_section, text_section, data_section, symtab_section, strtab_section, shstrtab_section}
@@ -51,14 +53,14 @@ found_at file at (Word n) = word_at file at
 abbrev pub field_check : ElfField → List ℕ → ℕ → Field → Check
 field_check kind file at wanted = record { field = kind; offset = at; found = found_at file at wanted; passes = found_at file at wanted == number_of wanted }
 
--- from a place on these fields are wanted, one behind the other
+-- from a place on these fields are wanted, one after the other
 unfoldable pub field_checks : ElfField → List ℕ → ℕ → List Field → List Check
 field_checks kind file at [] = []
 field_checks kind file at (f ∷ fs) = field_check kind file at f ∷ field_checks kind file (at + size_of f) fs
 
 -- any permitted number is wanted: the one that was found where it is permitted, else one that no field has
 unfoldable pub permitted : Bool → ℕ → ℕ
-permitted ok found = if ok then found else 4294967296
+permitted ok found = if ok then found else NO_WORD
 
 -- ---- the length, the header and the program headers
 
@@ -85,13 +87,13 @@ length_checks file = record { field = fields.Length; offset = 0; found = length 
 unfoldable pub header_checks : List ℕ → List Check
 header_checks file = field_checks fields.Header file 0 (ehdr_fields (executable (shoff file)))
 
--- 16 to 4,194,304 bytes, in words of 4
+-- from the least to the greatest size, in words of 4
 abbrev pub is_text_size : ℕ → Bool
-is_text_size n = nat_le 16 n && nat_le n 4194304 && (n % 4 == 0)
+is_text_size n = nat_le LEAST_TEXT n && nat_le n LARGEST_TEXT && (n % 4 == 0)
 
--- at most 1,048,576 bytes
+-- at most the greatest size
 abbrev pub is_data_size : ℕ → Bool
-is_data_size n = nat_le n 1048576
+is_data_size n = nat_le n LARGEST_DATA
 
 -- the program headers that are wanted: those of any permitted sizes
 unfoldable pub wanted_text_segment : Sizes → Phdr
@@ -105,7 +107,7 @@ program_checks file =
     field_checks fields.Program file segments_at (phdr_fields (wanted_text_segment (loaded_sizes file)))
     ++ field_checks fields.Program file (segments_at + 32) (phdr_fields (wanted_data_segment (loaded_sizes file)))
 
--- the file ends behind the six section headers
+-- the file ends after the six section headers
 unfoldable pub end_checks : List ℕ → List Check
 end_checks file = record { field = fields.Shoff; offset = 32; found = shoff file; passes = shoff file + 240 == length file } ∷ []
 
@@ -119,9 +121,9 @@ is_symtab_size n = (n % 16 == 0) && nat_le 16 n
 abbrev pub is_first_global : ℕ → ℕ → Bool
 is_first_global symtab n = nat_le 1 n && nat_le n (symtab / 16)
 
--- the first zero byte at least, and with the symbol table at most 1,073,741,824 bytes
+-- the first zero byte at least, and with the symbol table at most so many bytes
 abbrev pub is_strtab_size : ℕ → ℕ → Bool
-is_strtab_size symtab n = nat_le 1 n && nat_le (symtab + n) 1073741824
+is_strtab_size symtab n = nat_le 1 n && nat_le (symtab + n) LARGEST_TABLES
 
 -- the section headers that are wanted: those of any permitted sizes, and of any permitted first global entry
 unfoldable pub wanted_symtab_section : Sizes → ℕ → Shdr
@@ -145,7 +147,7 @@ linking_section_checks file =
     ++ field_checks fields.Section file (at + 160) (shdr_fields (wanted_strtab_section (sizes file)))
     ++ field_checks fields.Section file (at + 200) (shdr_fields (shstrtab_section (sizes file)))
 
--- the section headers stand behind the other parts
+-- the section headers stand after the other parts
 unfoldable pub place_checks : List ℕ → List Check
 place_checks file = record { field = fields.Shoff; offset = 32; found = shoff file; passes = shoff file == sections_at (sizes file) } ∷ []
 
@@ -172,7 +174,7 @@ strings file = take (sizes file).strtab (drop (strtab_at (sizes file)) file)
 unfoldable pub string_at : List ℕ → ℕ → List ℕ
 string_at table at = before_first (λ b. b == 0) (drop at table)
 
--- the place behind a string's zero byte, or the end of the strings where there is none
+-- the place after a string's zero byte, or the end of the strings where there is none
 abbrev pub place_after : ℕ → ℕ → List ℕ → ℕ
 place_after size at string = min (at + length string + 1) size
 
@@ -218,19 +220,19 @@ symbol_checks file =
     let s = sizes file in
     field_checks fields.Symbol file (symtab_at s) (sym_fields zero_entry) ++ entry_checks file s.strtab (symtab_at s + 16) 1 (symbols file)
 
--- a name from a place of the strings on has a byte, and a zero byte within the strings behind it; else it is wrong at its first byte, or at the strings' last one
+-- a name from a place of the strings on has a byte, and a zero byte within the strings after it; else it is wrong at its first byte, or at the strings' last one
 abbrev pub name_check : List ℕ → ℕ → ℕ → ℕ → List ℕ → Check
 name_check file start size name_at name =
     let ended = nat_lt (name_at + length name) size in
     let at = start + (if ended then name_at else size - 1) in
     record { field = fields.Strings; offset = at; found = byte_at file at; passes = nat_lt 0 (length name) && ended }
 
--- the names behind each other, and nothing behind the last
+-- the names after each other, and nothing after the last
 unfoldable pub name_checks : List ℕ → ℕ → ℕ → ℕ → List Symbol → List Check
 name_checks file start size name_at [] = record { field = fields.Strings; offset = start + name_at; found = byte_at file (start + name_at); passes = name_at == size } ∷ []
 name_checks file start size name_at (s ∷ ss) = name_check file start size name_at s.name ∷ name_checks file start size (place_after size name_at s.name) ss
 
--- the zero byte at the front of the strings, and the names
+-- the zero byte that the strings begin with, and the names
 unfoldable pub string_checks : List ℕ → List Check
 string_checks file =
     let start = strtab_at (sizes file) in
@@ -246,7 +248,7 @@ section_name_checks file = field_checks fields.Names file (shstrtab_at (sizes fi
 unfoldable pub front_checks : List ℕ → List Check
 front_checks file = length_checks file ++ header_checks file ++ program_checks file ++ end_checks file
 
--- the section headers, their place behind the other parts, and the gaps
+-- the section headers, their place after the other parts, and the gaps
 unfoldable pub layout_checks : List ℕ → List Check
 layout_checks file = loaded_section_checks file ++ linking_section_checks file ++ place_checks file ++ gap_checks file
 
@@ -264,7 +266,7 @@ Answers (Ok i) checked = checked ≡ Ok tt
 Answers (Err faults.NoMemory) checked = Unit {0}
 Answers (Err (faults.Field field offset found)) checked = checked ≡ Err (faults.Field field offset found)
 
--- what a passed check says: the file has its headers, and ends behind the section headers
+-- what a passed check says: the file has its headers, and ends after the section headers
 pub record IsEnded (file : List ℕ) : Type 0 where
   pub long : 116 ≤ length file
   pub short : length file < 4294967296

@@ -18,7 +18,7 @@ field_bytes (Word n) = to_le_bytes w32 n
 abbrev pub fields_bytes : List Field → List ℕ
 fields_bytes fields = flat_map field_bytes fields
 
--- the bytes that a field has, and those of fields behind each other
+-- the bytes that a field has, and those of fields after each other
 abbrev pub size_of : Field → ℕ
 size_of (Byte n) = 1
 size_of (Half n) = 2

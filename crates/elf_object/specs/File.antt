@@ -50,12 +50,12 @@ entry name_at s = record { st_name = name_at; st_value = s.value; st_size = s.si
 unfoldable pub zero_entry : Sym
 zero_entry = record { st_name = 0; st_value = 0; st_size = 0; st_info = 0; st_other = 0; st_shndx = 0 }
 
--- the entries of symbols whose names begin at this place of the string table, each with a zero byte behind it
+-- the entries of symbols whose names begin at this place of the string table, each with a zero byte after it
 unfoldable pub entries_bytes : ℕ → List Symbol → List ℕ
 entries_bytes name_at [] = []
 entries_bytes name_at (s ∷ ss) = fields_bytes (sym_fields (entry name_at s)) ++ entries_bytes (name_at + length s.name + 1) ss
 
--- the zero entry, then the symbols' entries, whose first name is behind the strings' zero byte
+-- the zero entry, then the symbols' entries, whose first name is after the strings' zero byte
 unfoldable pub symbol_table : List Symbol → List ℕ
 symbol_table symbols = fields_bytes (sym_fields zero_entry) ++ entries_bytes 1 symbols
 
@@ -79,7 +79,7 @@ pub record Part : Type 0 where
   pub place : ℕ
   pub bytes : List ℕ
 
--- the part behind those before it, with zero bytes up to its place
+-- the part after those before it, with zero bytes up to its place
 abbrev pub placed : List ℕ → Part → List ℕ
 placed before part = padded part.place before ++ part.bytes
 

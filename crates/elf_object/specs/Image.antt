@@ -2,13 +2,14 @@
 use Rattle.std.specs.Prelude.{◌≡◌, ◌≢◌, ℕ, ◌+◌, ◌*◌, ◌%◌, ◌<◌, ◌≤◌, List, [], ◌∷◌, ◌++◌, length, All, IsTrue}
 use Rattle.std.specs.List.{flat_map}
 use Rattle.elf_object.specs.declared.symbol.Symbol.{Symbol}
+use Rattle.elf_object.specs.declared.image.TheConstants.{LEAST_TEXT, LARGEST_TEXT, LARGEST_DATA, LARGEST_TABLES}
 
 pub record Parts : Type 0 where
   pub text : List ℕ
   pub data_bytes : List ℕ
   pub symbols : List Symbol
 
--- the string table: a zero byte, then each symbol's name with a zero byte behind it
+-- the string table: a zero byte, then each symbol's name with a zero byte after it
 abbrev pub string_table : List Symbol → List ℕ
 string_table symbols = 0 ∷ flat_map (λ s. s.name ++ 0 ∷ []) symbols
 
@@ -26,17 +27,17 @@ pub record HasWords (s : Symbol) : Type 0 where
   pub value : s.value < 4294967296
   pub size : s.size < 4294967296
 
--- behind a global symbol stand global ones alone
+-- after a global symbol stand global ones alone
 abbrev pub IsLocalFirst : List Symbol → Type 0
 IsLocalFirst [] = Unit {0}
 IsLocalFirst (s ∷ ss) = (IsTrue s.global → All (λ t. IsTrue t.global) ss) × IsLocalFirst ss
 
 -- the bounds of an image
 pub record IsImage (i : Parts) : Type 0 where
-  pub text_least : 16 ≤ length i.text
-  pub text_most : length i.text ≤ 4194304
+  pub text_least : LEAST_TEXT ≤ length i.text
+  pub text_most : length i.text ≤ LARGEST_TEXT
   pub text_words : length i.text % 4 ≡ 0
-  pub data_most : length i.data_bytes ≤ 1048576
+  pub data_most : length i.data_bytes ≤ LARGEST_DATA
   pub named : All IsNamed i.symbols
   pub local_first : IsLocalFirst i.symbols
-  pub symbols_most : symbol_table_size i.symbols + length (string_table i.symbols) ≤ 1073741824
+  pub symbols_most : symbol_table_size i.symbols + length (string_table i.symbols) ≤ LARGEST_TABLES

@@ -6,16 +6,18 @@ use Rattle.elf_object.specs.declared.elf32.Ehdr.{Ehdr}
 use Rattle.elf_object.specs.declared.elf32.Phdr.{Phdr}
 use Rattle.elf_object.specs.declared.elf32.Shdr.{Shdr}
 use Rattle.elf_object.specs.declared.layout.Sizes.{Sizes}
+use Rattle.elf_object.specs.declared.layout.TheConstants.{SEGMENTS_AT, TEXT_AT, PAGE}
+use Rattle.rv_isa.specs.Memory.{text_start, data_start}
 
--- the header stands at 0, the program headers behind it
+-- the header stands at 0, the program headers after it
 abbrev pub segments_at : ℕ
-segments_at = 52
+segments_at = SEGMENTS_AT
 
 abbrev pub text_at : ℕ
-text_at = 4096
+text_at = TEXT_AT
 
 unfoldable pub data_at : Sizes → ℕ
-data_at s = next_multiple_of (text_at + s.text) 4096
+data_at s = next_multiple_of (text_at + s.text) PAGE
 
 unfoldable pub symtab_at : Sizes → ℕ
 symtab_at s = next_multiple_of (data_at s + s.data_bytes) 4
@@ -36,8 +38,8 @@ executable shoff = record {
   e_type = 2;
   e_machine = 243;
   e_version = 1;
-  e_entry = 65536;
-  e_phoff = 52;
+  e_entry = text_start;
+  e_phoff = segments_at;
   e_shoff = shoff;
   e_flags = 0;
   e_ehsize = 52;
@@ -53,12 +55,12 @@ unfoldable pub text_segment : Sizes → Phdr
 text_segment s = record {
   p_type = 1;
   p_offset = text_at;
-  p_vaddr = 65536;
-  p_paddr = 65536;
+  p_vaddr = text_start;
+  p_paddr = text_start;
   p_filesz = s.text;
   p_memsz = s.text;
   p_flags = 5;
-  p_align = 4096;
+  p_align = PAGE;
 }
 
 -- PT_LOAD, read and write
@@ -66,12 +68,12 @@ unfoldable pub data_segment : Sizes → Phdr
 data_segment s = record {
   p_type = 1;
   p_offset = data_at s;
-  p_vaddr = 268435456;
-  p_paddr = 268435456;
+  p_vaddr = data_start;
+  p_paddr = data_start;
   p_filesz = s.data_bytes;
   p_memsz = s.data_bytes;
   p_flags = 6;
-  p_align = 4096;
+  p_align = PAGE;
 }
 
 -- the section names, of which a header has the place
@@ -98,7 +100,7 @@ text_section s = record {
   sh_name = 1;
   sh_type = 1;
   sh_flags = 6;
-  sh_addr = 65536;
+  sh_addr = text_start;
   sh_offset = text_at;
   sh_size = s.text;
   sh_link = 0;
@@ -113,7 +115,7 @@ data_section s = record {
   sh_name = 7;
   sh_type = 1;
   sh_flags = 3;
-  sh_addr = 268435456;
+  sh_addr = data_start;
   sh_offset = data_at s;
   sh_size = s.data_bytes;
   sh_link = 0;

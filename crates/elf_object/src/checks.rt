@@ -95,7 +95,7 @@ pub fn check_field(bytes: &[u8], field: ElfField, at: usize, wanted: Field) -> R
     check(field, at, found, passes)
 }
 
-/// From a place on these fields are wanted, one behind the other.
+/// From a place on these fields are wanted, one after the other.
 pub fn check_fields(
     bytes: &[u8],
     field: ElfField,

@@ -1,7 +1,6 @@
 ghost use Rattle.std.specs.Prelude.{◌≡◌};
 ghost use Rattle.elf_object.specs.declared.fault.ElfFault.TheVariants.{NoMemory};
 
-use std::alloc::{AllocError, AllocFailed};
 use thiserror::Error;
 
 /// What a check of an ELF file looks at.
@@ -40,22 +39,6 @@ pub enum ElfFault {
     },
     #[error("out of memory")]
     NoMemory,
-}
-
-impl From<AllocError> for ElfFault {
-    ghost from_gives = { λ _ e. e ≡ NoMemory };
-
-    fn from(_error: AllocError) -> ElfFault {
-        ElfFault::NoMemory
-    }
-}
-
-impl<T: Drop> From<AllocFailed<T>> for ElfFault {
-    ghost from_gives = { λ _ e. e ≡ NoMemory };
-
-    fn from(_error: AllocFailed<T>) -> ElfFault {
-        ElfFault::NoMemory
-    }
 }
 
 impl From<oi_base::NoMemory> for ElfFault {

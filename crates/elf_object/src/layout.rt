@@ -4,18 +4,16 @@ ghost use Rattle.std.specs.Prelude.{◌≡◌, ◌+◌, ◌<◌, ◌≤◌, ◌^
 ghost use Rattle.elf_object.specs.Layout.{data_at, symtab_at, strtab_at, shstrtab_at, sections_at, executable, text_segment, data_segment, null_section, text_section, data_section, symtab_section, strtab_section, shstrtab_section};
 
 use crate::elf32::{Ehdr, Phdr, Shdr};
+use rv_isa::{DATA_START, TEXT_START};
 
-/// The place of the program headers in the file: behind its header.
+/// The place of the program headers in the file: after its header.
 pub const SEGMENTS_AT: u64 = 52;
 
+/// The size of a page in bytes. What is loaded begins at a multiple of it, in the file and in memory.
+const PAGE: u64 = 4096;
+
 /// The text's place in the file.
-pub const TEXT_AT: u64 = 4096;
-
-/// The address of the text in memory.
-const TEXT_ADDRESS: u64 = 0x1_0000;
-
-/// The address of the data in memory.
-const DATA_ADDRESS: u64 = 0x1000_0000;
+pub const TEXT_AT: u64 = PAGE;
 
 /// The names of the sections, as the string table `.shstrtab`.
 pub const SECTION_NAMES: &[u8; 39] = b"\0.text\0.data\0.symtab\0.strtab\0.shstrtab\0";
@@ -35,7 +33,7 @@ impl Sizes {
         ensures place { result ≡ data_at self.now }
         ensures bound { result < 2 ^ 33 }
     {
-        (TEXT_AT + u64::from(self.text)).next_multiple_of(4096)
+        (TEXT_AT + u64::from(self.text)).next_multiple_of(PAGE)
     }
 
     #[tactic(auto, unfolding(crate::specs::Layout::symtab_at))]
@@ -80,7 +78,7 @@ pub fn executable(e_shoff: u64) -> Ehdr
         e_type: 2,
         e_machine: 243,
         e_version: 1,
-        e_entry: TEXT_ADDRESS,
+        e_entry: u64::from(TEXT_START),
         e_phoff: SEGMENTS_AT,
         e_shoff,
         e_flags: 0,
@@ -100,12 +98,12 @@ pub fn text_segment(sizes: &Sizes) -> Phdr
     Phdr {
         p_type: 1,
         p_offset: TEXT_AT,
-        p_vaddr: TEXT_ADDRESS,
-        p_paddr: TEXT_ADDRESS,
+        p_vaddr: u64::from(TEXT_START),
+        p_paddr: u64::from(TEXT_START),
         p_filesz: u64::from(sizes.text),
         p_memsz: u64::from(sizes.text),
         p_flags: 5,
-        p_align: 4096,
+        p_align: PAGE,
     }
 }
 
@@ -116,12 +114,12 @@ pub fn data_segment(sizes: &Sizes) -> Phdr
     Phdr {
         p_type: 1,
         p_offset: sizes.data_at(),
-        p_vaddr: DATA_ADDRESS,
-        p_paddr: DATA_ADDRESS,
+        p_vaddr: u64::from(DATA_START),
+        p_paddr: u64::from(DATA_START),
         p_filesz: u64::from(sizes.data_bytes),
         p_memsz: u64::from(sizes.data_bytes),
         p_flags: 6,
-        p_align: 4096,
+        p_align: PAGE,
     }
 }
 
@@ -151,7 +149,7 @@ pub fn text_section(sizes: &Sizes) -> Shdr
         sh_name: 1,
         sh_type: 1,
         sh_flags: 6,
-        sh_addr: TEXT_ADDRESS,
+        sh_addr: u64::from(TEXT_START),
         sh_offset: TEXT_AT,
         sh_size: u64::from(sizes.text),
         sh_link: 0,
@@ -169,7 +167,7 @@ pub fn data_section(sizes: &Sizes) -> Shdr
         sh_name: 7,
         sh_type: 1,
         sh_flags: 3,
-        sh_addr: DATA_ADDRESS,
+        sh_addr: u64::from(DATA_START),
         sh_offset: sizes.data_at(),
         sh_size: u64::from(sizes.data_bytes),
         sh_link: 0,

@@ -13,7 +13,7 @@ mod tables;
 mod writing;
 
 pub use fault::{ElfFault, ElfField};
-pub use image::Image;
+pub use image::{Image, LARGEST_DATA, LARGEST_TABLES, LARGEST_TEXT, LEAST_TEXT};
 pub use reading::read_elf;
 pub use symbol::{SymKind, Symbol, Symbols};
 pub use writing::write_elf;

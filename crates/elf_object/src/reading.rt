@@ -11,7 +11,7 @@ use crate::checks::{check, check_bytes, check_fields, check_zeros, word_at};
 use crate::elf32::{Field, Phdr, Shdr};
 use crate::entries::zero_entry;
 use crate::fault::{ElfFault, ElfField};
-use crate::image::Image;
+use crate::image::{Image, LARGEST_DATA, LARGEST_TABLES, LARGEST_TEXT, LEAST_TEXT};
 use crate::layout::{
     SECTION_NAMES, SEGMENTS_AT, Sizes, TEXT_AT, data_section, data_segment, executable,
     null_section, shstrtab_section, strtab_section, symtab_section, text_section, text_segment,
@@ -21,24 +21,27 @@ use crate::tables::{check_entries, check_strings, symbols_at};
 use oi_base::{NoMemory, Text};
 use std::alloc::Global;
 
+/// The least number that is no word of 32 bits.
+const NO_WORD: u64 = 0x1_0000_0000;
+
 /// The number that was found where it is permitted, else one that no field has.
 #[tactic(auto, unfolding(crate::specs::Checks::permitted))]
 fn permitted(ok: bool, found: u32) -> u64
     ensures { result ≡ permitted ok found }
 {
-    if ok { u64::from(found) } else { 0x1_0000_0000 }
+    if ok { u64::from(found) } else { NO_WORD }
 }
 
 fn is_text_size(n: u32) -> bool
     ensures { result ≡ is_text_size n }
 {
-    16 <= n && n <= 4_194_304 && n % 4 == 0
+    LEAST_TEXT <= n && n <= LARGEST_TEXT && n % 4 == 0
 }
 
 fn is_data_size(n: u32) -> bool
     ensures { result ≡ is_data_size n }
 {
-    n <= 1_048_576
+    n <= LARGEST_DATA
 }
 
 fn is_symtab_size(n: u32) -> bool
@@ -56,7 +59,7 @@ fn is_first_global(symtab: u32, n: u32) -> bool
 fn is_strtab_size(symtab: u32, n: u32) -> bool
     ensures { result ≡ is_strtab_size symtab n }
 {
-    1 <= n && u64::from(symtab) + u64::from(n) <= 1_073_741_824
+    1 <= n && u64::from(symtab) + u64::from(n) <= u64::from(LARGEST_TABLES)
 }
 
 #[tactic(auto, unfolding(crate::specs::Checks::length_checks))]
@@ -129,7 +132,7 @@ fn check_segment(bytes: &[u8], at: usize, wanted: &Phdr) -> Result<(), ElfFault>
     check_fields(bytes, ElfField::Program, at, &wanted.fields())
 }
 
-#[tactic(auto, using(crate::proofs::Groups::groups), unfolding(crate::specs::Checks::program_checks))]
+#[tactic(auto, using(crate::proofs::CheckGroups::groups), unfolding(crate::specs::Checks::program_checks))]
 fn check_program(bytes: &[u8]) -> Result<(), ElfFault>
     requires long { 116 ≤ length bytes.now }
     requires short { length bytes.now < 2 ^ 32 }
@@ -210,7 +213,7 @@ fn check_section(bytes: &[u8], at: usize, wanted: &Shdr) -> Result<(), ElfFault>
     check_fields(bytes, ElfField::Section, at, &wanted.fields())
 }
 
-#[tactic(auto, using(crate::proofs::Groups::groups), unfolding(crate::specs::Checks::loaded_section_checks))]
+#[tactic(auto, using(crate::proofs::CheckGroups::groups), unfolding(crate::specs::Checks::loaded_section_checks))]
 fn check_loaded_sections(bytes: &[u8]) -> Result<(), ElfFault>
     requires { IsEnded bytes.now }
     ensures { result ≡ first_failed (loaded_section_checks bytes.now) }
@@ -222,7 +225,7 @@ fn check_loaded_sections(bytes: &[u8]) -> Result<(), ElfFault>
     check_section(bytes, at + 80, &data_section(&sizes))
 }
 
-#[tactic(auto, using(crate::proofs::Groups::groups), unfolding(crate::specs::Checks::linking_section_checks))]
+#[tactic(auto, using(crate::proofs::CheckGroups::groups), unfolding(crate::specs::Checks::linking_section_checks))]
 fn check_linking_sections(bytes: &[u8]) -> Result<(), ElfFault>
     requires { IsEnded bytes.now }
     ensures { result ≡ first_failed (linking_section_checks bytes.now) }
@@ -244,7 +247,7 @@ fn check_place(bytes: &[u8]) -> Result<(), ElfFault>
     check(ElfField::Shoff, 32, shoff, u64::from(shoff) == place)
 }
 
-#[tactic(auto, using(crate::proofs::Groups::groups, crate::proofs::Places::places), unfolding(crate::specs::Checks::gap_checks))]
+#[tactic(auto, using(crate::proofs::CheckGroups::groups, crate::proofs::Places::places), unfolding(crate::specs::Checks::gap_checks))]
 fn check_gaps(bytes: &[u8]) -> Result<(), ElfFault>
     requires ended { IsEnded bytes.now }
     requires place { shoff bytes.now ≡ sections_at (sizes bytes.now) }
@@ -262,7 +265,7 @@ fn check_gaps(bytes: &[u8]) -> Result<(), ElfFault>
 }
 
 /// The length, the header, the program headers and the place of the section headers.
-#[tactic(auto, using(crate::proofs::Groups::groups, crate::proofs::Sizing::passed_facts), unfolding(crate::specs::Checks::front_checks))]
+#[tactic(auto, using(crate::proofs::CheckGroups::groups, crate::proofs::PassedChecks::passed_facts), unfolding(crate::specs::Checks::front_checks))]
 fn check_front(bytes: &[u8]) -> Result<(), ElfFault>
     requires { length bytes.now < 2 ^ 32 }
     ensures { result ≡ first_failed (front_checks bytes.now) }
@@ -274,7 +277,7 @@ fn check_front(bytes: &[u8]) -> Result<(), ElfFault>
 }
 
 /// The section headers, their place and the gaps.
-#[tactic(auto, using(crate::proofs::Groups::groups, crate::proofs::Sizing::passed_facts), unfolding(crate::specs::Checks::layout_checks))]
+#[tactic(auto, using(crate::proofs::CheckGroups::groups, crate::proofs::PassedChecks::passed_facts), unfolding(crate::specs::Checks::layout_checks))]
 fn check_layout(bytes: &[u8]) -> Result<(), ElfFault>
     requires { IsEnded bytes.now }
     ensures { result ≡ first_failed (layout_checks bytes.now) }
@@ -314,7 +317,7 @@ fn symbols(alloc: Global, bytes: &[u8]) -> Result<Symbols, NoMemory>
     )
 }
 
-#[tactic(auto, using(crate::proofs::Groups::groups), unfolding(crate::specs::Checks::symbol_checks))]
+#[tactic(auto, using(crate::proofs::CheckGroups::groups), unfolding(crate::specs::Checks::symbol_checks))]
 fn check_symbols(bytes: &[u8], found: &[Symbol]) -> Result<(), ElfFault>
     requires laid_out { IsLaidOut bytes.now }
     requires found { found.now ≡ symbols bytes.now }
@@ -326,7 +329,7 @@ fn check_symbols(bytes: &[u8], found: &[Symbol]) -> Result<(), ElfFault>
     check_entries(bytes, sizes.strtab as usize, at + 16, found)
 }
 
-#[tactic(auto, using(crate::proofs::Groups::groups), unfolding(crate::specs::Checks::string_checks))]
+#[tactic(auto, using(crate::proofs::CheckGroups::groups), unfolding(crate::specs::Checks::string_checks))]
 fn check_string_table(bytes: &[u8], found: &[Symbol]) -> Result<(), ElfFault>
     requires laid_out { IsLaidOut bytes.now }
     requires found { found.now ≡ symbols bytes.now }
@@ -347,7 +350,7 @@ fn check_section_names(bytes: &[u8]) -> Result<(), ElfFault>
     check_bytes(bytes, ElfField::Names, at, SECTION_NAMES)
 }
 
-#[tactic(auto, using(crate::proofs::Groups::groups), unfolding(crate::specs::Checks::table_checks))]
+#[tactic(auto, using(crate::proofs::CheckGroups::groups), unfolding(crate::specs::Checks::table_checks))]
 fn check_tables(bytes: &[u8], found: &[Symbol]) -> Result<(), ElfFault>
     requires laid_out { IsLaidOut bytes.now }
     requires found { found.now ≡ symbols bytes.now }
@@ -389,11 +392,11 @@ fn read(alloc: Global, bytes: &[u8]) -> Result<Image, ElfFault>
 }
 
 /// The image whose file these bytes are. A fault is the first failed check, in this order: the length, the
-/// header but for the place of the section headers, the program headers, the file's end behind the section
-/// headers, the section headers, their place behind the other parts, the bytes between the parts, the symbol
+/// header but for the place of the section headers, the program headers, the file's end after the section
+/// headers, the section headers, their place after the other parts, the bytes between the parts, the symbol
 /// table, the strings, the section names.
 pub fn read_elf(alloc: Global, bytes: &[u8]) -> Result<Image, ElfFault>
-    requires { length bytes.now < 4294967295 }
+    requires { length bytes.now < u32.MAX }
     // What is read is the file of the image.
     ensures found { IfOk result (λ i. IsImage i × (bytes.now ≡ elf i)) }
     // The file of an image is read as that image, unless memory runs out.

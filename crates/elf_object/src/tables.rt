@@ -40,7 +40,7 @@ fn string_at(table: &[u8], at: usize) -> &[u8]
     &rest[..zero_or_end(rest)]
 }
 
-/// The place behind a string's zero byte, or the end of the strings where there is none.
+/// The place after a string's zero byte, or the end of the strings where there is none.
 fn place_after(size: usize, at: usize, string: &[u8]) -> usize
     requires { (at ≤ size) × (size < 2 ^ 32) }
     ensures place { result ≡ place_after size at string.now }
@@ -126,7 +126,7 @@ pub fn check_entries(
     Ok(())
 }
 
-/// The name from a place of the strings on has a byte, and a zero byte within the strings behind it.
+/// The name from a place of the strings on has a byte, and a zero byte within the strings after it.
 fn check_name(
     bytes: &[u8],
     start: usize,
@@ -145,7 +145,7 @@ fn check_name(
     check(ElfField::Strings, at, found, !name.is_empty() && ended)
 }
 
-/// The names are wanted behind each other, and nothing behind the last.
+/// The names are wanted after each other, and nothing after the last.
 pub fn check_strings(
     bytes: &[u8],
     start: usize,

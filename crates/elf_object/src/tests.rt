@@ -3,7 +3,7 @@ use oi_base::{Items, NoMemory, Text};
 use std::alloc::Global;
 use std::test::*;
 
-/// A program whose `main` returns 7, behind four words that call it.
+/// A program whose `main` returns 7, after four words that call it.
 const TEXT: [u8; 40] = [
     0x97, 0x00, 0x00, 0x00, 0xe7, 0x80, 0x00, 0x01, 0x93, 0x08, 0x30, 0x00, 0x73, 0x00, 0x00, 0x00,
     0x13, 0x01, 0x01, 0xff, 0x23, 0x20, 0x11, 0x00, 0x13, 0x05, 0x70, 0x00, 0x83, 0x20, 0x01, 0x00,
@@ -60,7 +60,7 @@ const SEVEN: [Change; 38] = [
     (8220, &[17], ElfField::Symbol, 8222, 1),
     (8221, &[1], ElfField::Symbol, 8221, 1),
     (8224, &[1], ElfField::Strings, 8224, 1),
-    // An empty name, a name without its zero byte, and a byte behind the last name's.
+    // An empty name, a name without its zero byte, and a byte after the last name's.
     (8225, &[0], ElfField::Strings, 8225, 0),
     (8229, b"x", ElfField::Strings, 8229, 120),
     (8228, &[0], ElfField::Strings, 8229, 0),

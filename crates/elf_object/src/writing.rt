@@ -149,8 +149,8 @@ fn put_section_parts(out: &mut Vec<u8>, sizes: &Sizes, image: &Image) -> Result<
 }
 
 /// The file of an image: an ELF32 executable for RISC-V ("Executable and Linking Format", version 1.2). The
-/// header and two program headers stand first. The text follows at 4096, the data at the next multiple of
-/// 4096, the symbol table at the next multiple of 4, the strings and the section names behind it, and the six
+/// header and two program headers stand first. The text follows at the first page, the data at the next
+/// one, the symbol table at the next multiple of 4, the strings and the section names after it, and the six
 /// section headers at the next multiple of 4, at the file's end. Bytes between the parts are zero.
 #[tactic(auto, unfolding(crate::specs::File::elf, crate::specs::File::loaded_parts, crate::specs::File::section_parts))]
 pub fn write_elf(alloc: Global, image: &Image) -> Result<Vec<u8>, NoMemory>

@@ -16,7 +16,7 @@ use Rattle.ir_core.specs.Formed.{FuncType, IsFormedBody, IsTyped, written_by, wr
 use Rattle.frame_layout.specs.declared.parts.Part.{Part}
 use Rattle.frame_layout.specs.Parts.{slot_part, alloca_part, phi_part, slot_for, param_parts, block_slots, block_allocas, slots, allocas, parts, IsNeed, IsPart}
 use Rattle.frame_layout.specs.declared.homes.Home.{Home}
-use Rattle.frame_layout.specs.declared.homes.Home.TheVariants.{Nowhere, InSlot, OfPhi, InMemory}
+use Rattle.frame_layout.specs.declared.homes.Home.TheVariants.{NoHome, InSlot, OfPhi, InMemory}
 use Rattle.frame_layout.specs.Homes.{home_among, with_homes}
 use Rattle.frame_layout.specs.Frame.{home}
 use Rattle.frame_layout.proofs.Table.{home_or, absent, with_homes-length, with_homes-get}
@@ -151,28 +151,28 @@ parts_are_few types funcs own b formed = few_parts b.regs (parts b) (parts_below
 
 -- ---- the table of homes
 
-home_or_none : (h : Home) → home_or h Nowhere ≡ h
-home_or_none Nowhere = refl
+home_or_none : (h : Home) → home_or h NoHome ≡ h
+home_or_none NoHome = refl
 home_or_none (InSlot o) = refl
 home_or_none (OfPhi o) = refl
 home_or_none (InMemory o) = refl
 
-pub table_of_homes : (types : ℕ → Scalar) (funcs : ℕ → FuncType) (own : FuncType) (b : FlatBody) → IsFormedBody types funcs own b → with_homes (replicate b.regs Nowhere) 4 (parts b) ≡ map (home b) (range_with_len 0 b.regs)
+pub table_of_homes : (types : ℕ → Scalar) (funcs : ℕ → FuncType) (own : FuncType) (b : FlatBody) → IsFormedBody types funcs own b → with_homes (replicate b.regs NoHome) 4 (parts b) ≡ map (home b) (range_with_len 0 b.regs)
 unfolding home
 table_of_homes types funcs own b formed =
-    ext_get_or Nowhere (with_homes (replicate b.regs Nowhere) 4 (parts b)) (map (home b) (range_with_len 0 b.regs)) (len ∙ sym (length-map (range_with_len 0 b.regs) (home b) ∙ length-range_with_len 0 b.regs)) each
+    ext_get_or NoHome (with_homes (replicate b.regs NoHome) 4 (parts b)) (map (home b) (range_with_len 0 b.regs)) (len ∙ sym (length-map (range_with_len 0 b.regs) (home b) ∙ length-range_with_len 0 b.regs)) each
   where
-    len : length (with_homes (replicate b.regs Nowhere) 4 (parts b)) ≡ b.regs
-    len = with_homes-length (replicate b.regs Nowhere) 4 (parts b) ∙ length-replicate b.regs Nowhere
+    len : length (with_homes (replicate b.regs NoHome) 4 (parts b)) ≡ b.regs
+    len = with_homes-length (replicate b.regs NoHome) 4 (parts b) ∙ length-replicate b.regs NoHome
 
-    each : (i : ℕ) → i < length (with_homes (replicate b.regs Nowhere) 4 (parts b)) → get_or (with_homes (replicate b.regs Nowhere) 4 (parts b)) i Nowhere ≡ get_or (map (home b) (range_with_len 0 b.regs)) i Nowhere
+    each : (i : ℕ) → i < length (with_homes (replicate b.regs NoHome) 4 (parts b)) → get_or (with_homes (replicate b.regs NoHome) 4 (parts b)) i NoHome ≡ get_or (map (home b) (range_with_len 0 b.regs)) i NoHome
     each i lt =
         let within : i < b.regs = let l = len in omega arith in
-        let empty : get_or (replicate b.regs Nowhere) i Nowhere ≡ Nowhere = get_or-replicate b.regs i Nowhere Nowhere within in
-        with_homes-get (replicate b.regs Nowhere) 4 (parts b) i b.regs (length-replicate b.regs Nowhere) (parts_below types funcs own b formed) (parts_once types funcs own b formed i)
+        let empty : get_or (replicate b.regs NoHome) i NoHome ≡ NoHome = get_or-replicate b.regs i NoHome NoHome within in
+        with_homes-get (replicate b.regs NoHome) 4 (parts b) i b.regs (length-replicate b.regs NoHome) (parts_below types funcs own b formed) (parts_once types funcs own b formed i)
         ∙ ap (λ (h : Home). home_or (home_among 4 (parts b) i) h) empty
         ∙ home_or_none (home_among 4 (parts b) i)
-        ∙ sym (get_or-map-range_with_len (home b) 0 b.regs i i Nowhere within (omega arith))
+        ∙ sym (get_or-map-range_with_len (home b) 0 b.regs i i NoHome within (omega arith))
 
 -- a register that is none of the body's has no home
 no_part : (at : ℕ) (ps : List Part) (n r : ℕ) → Each (IsBelow n) ps → n ≤ r → times r ps ≡ 0
@@ -183,12 +183,12 @@ no_part at (p ∷ ps) n r below le =
     let here : one (nat_eq p.reg.0 r) ≡ 0 = ap one e in
     omega arith
 
-pub home_in_table : (types : ℕ → Scalar) (funcs : ℕ → FuncType) (own : FuncType) (b : FlatBody) → IsFormedBody types funcs own b → (r : ℕ) → get_or (map (home b) (range_with_len 0 b.regs)) r Nowhere ≡ home b r
+pub home_in_table : (types : ℕ → Scalar) (funcs : ℕ → FuncType) (own : FuncType) (b : FlatBody) → IsFormedBody types funcs own b → (r : ℕ) → get_or (map (home b) (range_with_len 0 b.regs)) r NoHome ≡ home b r
 unfolding home
 home_in_table types funcs own b formed r = by_range (cases_lt r b.regs)
   where
-    by_range : (r < b.regs) ⊎ (b.regs ≤ r) → get_or (map (home b) (range_with_len 0 b.regs)) r Nowhere ≡ home b r
-    by_range (inl lt) = get_or-map-range_with_len (home b) 0 b.regs r r Nowhere lt (omega arith)
+    by_range : (r < b.regs) ⊎ (b.regs ≤ r) → get_or (map (home b) (range_with_len 0 b.regs)) r NoHome ≡ home b r
+    by_range (inl lt) = get_or-map-range_with_len (home b) 0 b.regs r r NoHome lt (omega arith)
     by_range (inr le) =
         let len : length (map (home b) (range_with_len 0 b.regs)) ≡ b.regs = length-map (range_with_len 0 b.regs) (home b) ∙ length-range_with_len 0 b.regs in
-        get_or_past (map (home b) (range_with_len 0 b.regs)) r Nowhere (omega arith) ∙ sym (absent 4 (parts b) r (no_part 4 (parts b) b.regs r (parts_below types funcs own b formed) le))
+        get_or_past (map (home b) (range_with_len 0 b.regs)) r NoHome (omega arith) ∙ sym (absent 4 (parts b) r (no_part 4 (parts b) b.regs r (parts_below types funcs own b formed) le))

@@ -5,21 +5,21 @@ use Rattle.frame_layout.specs.declared.parts.Need.TheVariants.{Slot, SlotAndShad
 use Rattle.frame_layout.specs.declared.parts.Part.{Part}
 use Rattle.frame_layout.specs.Parts.{begin_of, end_of, end_of_all}
 
-pub begins_behind : (at : ℕ) (n : Need) → at ≤ begin_of at n
-begins_behind at Slot = omega arith
-begins_behind at SlotAndShadow = omega arith
-begins_behind at (Memory s a) = omega arith
+pub begins_after : (at : ℕ) (n : Need) → at ≤ begin_of at n
+begins_after at Slot = omega arith
+begins_after at SlotAndShadow = omega arith
+begins_after at (Memory s a) = omega arith
 
-pub ends_behind : (at : ℕ) (ps : List Part) → at ≤ end_of_all at ps
-ends_behind at [] = omega arith
-ends_behind at (p ∷ ps) = let h = begins_behind at p.need in let k = ends_behind (end_of at p.need) ps in omega arith
+pub ends_after : (at : ℕ) (ps : List Part) → at ≤ end_of_all at ps
+ends_after at [] = omega arith
+ends_after at (p ∷ ps) = let h = begins_after at p.need in let k = ends_after (end_of at p.need) ps in omega arith
 
 -- the next part ends before the last
 pub next_ends : (at total : ℕ) (ps : List Part) (i : ℕ) (d : Part) → i < length ps → end_of_all at (drop i ps) ≡ total → end_of at (get_or ps i d).need ≤ total
 next_ends at total ps i d lt e =
     let front : drop i ps ≡ get_or ps i d ∷ drop (i + 1) ps = rw (add-one, drop-cons ps i d) refl in
     let same : end_of_all (end_of at (get_or ps i d).need) (drop (i + 1) ps) ≡ total = sym (ap (end_of_all at) front) ∙ e in
-    let h = ends_behind (end_of at (get_or ps i d).need) (drop (i + 1) ps) in
+    let h = ends_after (end_of at (get_or ps i d).need) (drop (i + 1) ps) in
     omega arith
 
 pub end_of_join : (at : ℕ) (ps qs : List Part) → end_of_all at (ps ++ qs) ≡ end_of_all (end_of_all at ps) qs

@@ -14,13 +14,13 @@ use Rattle.ir_core.specs.WellFormed.{IsWellFormed}
 use Rattle.frame_layout.specs.declared.parts.Need.{Need}
 use Rattle.frame_layout.specs.declared.parts.Need.TheVariants.{Slot, SlotAndShadow, Memory}
 use Rattle.frame_layout.specs.declared.parts.Part.{Part}
-use Rattle.frame_layout.specs.declared.homes.Home.TheVariants.{Nowhere}
+use Rattle.frame_layout.specs.declared.homes.Home.TheVariants.{NoHome}
 use Rattle.frame_layout.specs.Parts.{part, slot_part, slot_for, alloca_part, phi_part, param_parts, block_slots, block_allocas, slots, allocas, parts, end_of_all, size_of}
 use Rattle.frame_layout.specs.Homes.{home_at, home_among, slot_in, shadow_in, place_in}
 use Rattle.frame_layout.specs.Frame.{size, frame, slots_end, home, slot, shadow, place}
 use Rattle.frame_layout.specs.Laws.{HasPhi, HasInstr, IsNoAlloca, IsWrittenBy, HaveHomes, AreApart, LieApart}
 use Rattle.frame_layout.proofs.Each.{Each, OfOption, each_join, each_flat, each_map, each_filter, each_free, each_by_index}
-use Rattle.frame_layout.proofs.Ends.{ends_behind, end_of_join}
+use Rattle.frame_layout.proofs.Ends.{ends_after, end_of_join}
 use Rattle.frame_layout.proofs.Body.{parts_once, parts_need}
 use Rattle.frame_layout.proofs.Standing.{StandsAt, Found, found, stands, Has, stands-low, stands-high, stands-apart, stands-split, stands-each, stands-home, IsSlotNeed, IsMemoryNeed, slots-aligned, stands-aligned}
 
@@ -201,25 +201,25 @@ slot_part_of : (b : FlatBody) (r o : ℕ) → slot b r ≡ Some o → SlotPart b
 unfolding home
 slot_part_of b r o e = by_home (found 4 (parts b) r)
   where
-    by_home : (home_among 4 (parts b) r ≡ Nowhere) ⊎ Found 4 (parts b) r → SlotPart b r o
+    by_home : (home_among 4 (parts b) r ≡ NoHome) ⊎ Found 4 (parts b) r → SlotPart b r o
     by_home (inl none) = let clash : None ≡ Some o = ap slot_in (sym none) ∙ e in absurd (cc)
     by_home (inr f) = from_slot b r o f.begin f.need f.stands (ap slot_in (sym f.is_home) ∙ e)
 
 record ShadowPart (b : FlatBody) (r o : ℕ) : Type 0 where
   begin : ℕ
   stands : HasPart b r begin SlotAndShadow
-  behind : o ≡ begin + 4
+  after : o ≡ begin + 4
 
 from_shadow : (b : FlatBody) (r o begin : ℕ) (n : Need) → HasPart b r begin n → shadow_in (home_at begin n) ≡ Some o → ShadowPart b r o
 from_shadow b r o begin Slot h e = absurd (cc)
-from_shadow b r o begin SlotAndShadow h e = record { begin = begin; stands = h; behind = cc }
+from_shadow b r o begin SlotAndShadow h e = record { begin = begin; stands = h; after = cc }
 from_shadow b r o begin (Memory size align) h e = absurd (cc)
 
 shadow_part_of : (b : FlatBody) (r o : ℕ) → shadow b r ≡ Some o → ShadowPart b r o
 unfolding home
 shadow_part_of b r o e = by_home (found 4 (parts b) r)
   where
-    by_home : (home_among 4 (parts b) r ≡ Nowhere) ⊎ Found 4 (parts b) r → ShadowPart b r o
+    by_home : (home_among 4 (parts b) r ≡ NoHome) ⊎ Found 4 (parts b) r → ShadowPart b r o
     by_home (inl none) = let clash : None ≡ Some o = ap shadow_in (sym none) ∙ e in absurd (cc)
     by_home (inr f) = from_shadow b r o f.begin f.need f.stands (ap shadow_in (sym f.is_home) ∙ e)
 
@@ -237,11 +237,11 @@ memory_part_of : (b : FlatBody) (r o : ℕ) → place b r ≡ Some o → MemoryP
 unfolding home
 memory_part_of b r o e = by_home (found 4 (parts b) r)
   where
-    by_home : (home_among 4 (parts b) r ≡ Nowhere) ⊎ Found 4 (parts b) r → MemoryPart b r o
+    by_home : (home_among 4 (parts b) r ≡ NoHome) ⊎ Found 4 (parts b) r → MemoryPart b r o
     by_home (inl none) = let clash : None ≡ Some o = ap place_in (sym none) ∙ e in absurd (cc)
     by_home (inr f) = from_place b r o f.begin f.need f.stands (ap place_in (sym f.is_home) ∙ e)
 
--- the other way round, where no register has two parts
+-- conversely, where no register has two parts
 home_of_part : (b : FlatBody) → IsWellFormed b → (r o : ℕ) (n : Need) → HasPart b r o n → home b r ≡ home_at o n
 unfolding home
 home_of_part b w r o n h = stands-home 4 (parts b) r o n (parts_once w.types w.funcs w.own b w.formed r) h
@@ -305,7 +305,7 @@ have_homes b w = record {
 
 -- ---- where they lie
 
--- slots stand among the slots, and memory behind them
+-- slots stand among the slots, and memory after them
 among_slots : (b : FlatBody) (r o : ℕ) (n : Need) → IsSlotNeed n → HasPart b r o n → StandsAt 4 (slots b) r o n
 among_slots b r o n is h = of_two n is (stands-split 4 (slots b) (allocas b) r o n h)
   where
@@ -315,8 +315,8 @@ among_slots b r o n is h = of_two n is (stands-split 4 (slots b) (allocas b) r o
     of_two SlotAndShadow is (inr s) = absurd (stands-each (λ r n. IsMemoryNeed n) (end_of_all 4 (slots b)) (allocas b) r o SlotAndShadow (all_memory b) s)
     of_two (Memory size align) is (inr s) = absurd is
 
-behind_slots : (b : FlatBody) (r o size align : ℕ) → HasPart b r o (Memory size align) → StandsAt (end_of_all 4 (slots b)) (allocas b) r o (Memory size align)
-behind_slots b r o size align h = of_two (stands-split 4 (slots b) (allocas b) r o (Memory size align) h)
+after_slots : (b : FlatBody) (r o size align : ℕ) → HasPart b r o (Memory size align) → StandsAt (end_of_all 4 (slots b)) (allocas b) r o (Memory size align)
+after_slots b r o size align h = of_two (stands-split 4 (slots b) (allocas b) r o (Memory size align) h)
   where
     of_two : StandsAt 4 (slots b) r o (Memory size align) ⊎ StandsAt (end_of_all 4 (slots b)) (allocas b) r o (Memory size align) → StandsAt (end_of_all 4 (slots b)) (allocas b) r o (Memory size align)
     of_two (inl s) = absurd (stands-each (λ r n. IsSlotNeed n) 4 (slots b) r o (Memory size align) (all_slots b) s)
@@ -342,8 +342,8 @@ shadow_lies b w r o e =
     let p = shadow_part_of b r o e in
     let s = among_slots b r p.begin SlotAndShadow tt p.stands in
     let high = stands-high 4 (slots b) r p.begin SlotAndShadow s in
-    let behind = p.behind in
-    (p.begin, ap slot_in (home_of_part b w r p.begin SlotAndShadow p.stands), p.behind, omega arith)
+    let after = p.after in
+    (p.begin, ap slot_in (home_of_part b w r p.begin SlotAndShadow p.stands), p.after, omega arith)
 
 narrower : (o p s t m : ℕ) → 4 ≤ s → 4 ≤ t → m ≤ s → AreApart o s p t → AreApart o m p 4
 narrower o p s t m a b c (inl h) = inl (omega arith)
@@ -368,12 +368,12 @@ shadow_apart b w r q o p e f = by_test (nat_eq r q) refl
         let eq : q ≡ r = grind (arith, nat_tests, same) in
         let f' : slot b r ≡ Some p = sym (ap (slot b) eq) ∙ f in
         let at : s.0 ≡ p = let both : Some s.0 ≡ Some p = sym s.1 ∙ f' in cc in
-        let behind = s.2 in
+        let after = s.2 in
         inr (omega arith)
     by_test false other =
         let x = shadow_part_of b r o e in
         let y = slot_part_of b q p f in
-        shifted o x.begin p x.behind (narrower x.begin p 8 (size_of y.need) 8 (omega arith) (four y.need y.is_slot) (omega arith) (stands-apart 4 (parts b) r q x.begin p SlotAndShadow y.need x.stands y.stands (λ eq. let s : nat_eq r q ≡ true = grind (arith, nat_tests, eq) in absurd (cc))))
+        shifted o x.begin p x.after (narrower x.begin p 8 (size_of y.need) 8 (omega arith) (four y.need y.is_slot) (omega arith) (stands-apart 4 (parts b) r q x.begin p SlotAndShadow y.need x.stands y.stands (λ eq. let s : nat_eq r q ≡ true = grind (arith, nat_tests, eq) in absurd (cc))))
 
 both_shifted : (o p s t : ℕ) → o ≡ s + 4 → p ≡ t + 4 → AreApart s 8 t 8 → AreApart o 4 p 4
 both_shifted o p s t e f (inl h) = inl (omega arith)
@@ -383,7 +383,7 @@ shadows_apart : (b : FlatBody) (r q o p : ℕ) → shadow b r ≡ Some o → sha
 shadows_apart b r q o p e f apart =
     let x = shadow_part_of b r o e in
     let y = shadow_part_of b q p f in
-    both_shifted o p x.begin y.begin x.behind y.behind (stands-apart 4 (parts b) r q x.begin y.begin SlotAndShadow SlotAndShadow x.stands y.stands apart)
+    both_shifted o p x.begin y.begin x.after y.after (stands-apart 4 (parts b) r q x.begin y.begin SlotAndShadow SlotAndShadow x.stands y.stands apart)
 
 -- an alloca's memory
 memory_stands : (b : FlatBody) → IsWellFormed b → (d : RegId) (size align o : ℕ) → HasInstr b (Alloca d size align) → place b d.0 ≡ Some o → HasPart b d.0 o (Memory size align)
@@ -396,8 +396,8 @@ memory_stands b w d size align o h e =
 slots_within : (b : FlatBody) → (4 ≤ slots_end b) × (slots_end b ≤ frame b)
 unfolding slots_end frame
 slots_within b =
-    let a = ends_behind 4 (slots b) in
-    let c = ends_behind (end_of_all 4 (slots b)) (allocas b) in
+    let a = ends_after 4 (slots b) in
+    let c = ends_after (end_of_all 4 (slots b)) (allocas b) in
     let j = end_of_join 4 (slots b) (allocas b) in
     (a, omega arith)
 
@@ -405,7 +405,7 @@ memory_lies : (b : FlatBody) → IsWellFormed b → (d : RegId) (bytes align o :
 unfolding slots_end frame
 memory_lies b w d bytes align o h e =
     let s = memory_stands b w d bytes align o h e in
-    let low = stands-low (end_of_all 4 (slots b)) (allocas b) d.0 o (Memory bytes align) (behind_slots b d.0 o bytes align s) in
+    let low = stands-low (end_of_all 4 (slots b)) (allocas b) d.0 o (Memory bytes align) (after_slots b d.0 o bytes align s) in
     let high : o + bytes ≤ end_of_all 4 (parts b) = stands-high 4 (parts b) d.0 o (Memory bytes align) s in
     let aligned = stands-aligned 4 (parts b) d.0 o (Memory bytes align) (parts_need w.types w.funcs w.own b w.formed) s in
     (low, omega arith, aligned)

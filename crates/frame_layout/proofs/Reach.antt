@@ -1,4 +1,5 @@
 -- How far parts reach.
+use Rattle.frame_layout.specs.declared.laying.TheConstants.{LARGEST_FRAME}
 use Rattle.std.proofs.Common.{◌≡◌, ℕ, zero, suc, ◌+◌, ◌*◌, ◌<◌, ◌≤◌, All, List, [], ◌∷◌, length, set, replicate, subst, arith}
 use Rattle.std.specs.Prelude.{slice_index_or}
 use Rattle.std.proofs.lemmas.List.Elements.{recursion_from_All, All-set, All-replicate}
@@ -8,12 +9,12 @@ use Rattle.frame_layout.specs.declared.parts.Need.{Need}
 use Rattle.frame_layout.specs.declared.parts.Need.TheVariants.{Slot, SlotAndShadow, Memory}
 use Rattle.frame_layout.specs.declared.parts.Part.{Part}
 use Rattle.frame_layout.specs.declared.homes.Home.{Home}
-use Rattle.frame_layout.specs.declared.homes.Home.TheVariants.{Nowhere}
+use Rattle.frame_layout.specs.declared.homes.Home.TheVariants.{NoHome}
 use Rattle.frame_layout.specs.Parts.{begin_of, end_of, end_of_all, IsNeed, IsPart}
 use Rattle.frame_layout.specs.Homes.{home_at, with_homes, IsLow}
 use Rattle.frame_layout.specs.Frame.{size}
 use Rattle.frame_layout.proofs.Each.{Each, each_weaker, each_recursion}
-use Rattle.frame_layout.proofs.Ends.{ends_behind}
+use Rattle.frame_layout.proofs.Ends.{ends_after}
 
 -- one of five numbers
 one_of_five : (a : ℕ) (P : ℕ → Type 0) → P 1 → P 2 → P 4 → P 8 → P 16 → (k : ℕ) → k < 5 → slice_index_or (1 ∷ 2 ∷ 4 ∷ 8 ∷ 16 ∷ []) k a ≡ a → P a
@@ -56,17 +57,17 @@ size_room n ps all few lt = let far = rounded_all 4 ps (needs_of n ps all) in om
 
 -- ---- low offsets
 
-low_home : (o : ℕ) (n : Need) → o ≤ 65536 → IsLow (home_at o n)
+low_home : (o : ℕ) (n : Need) → o ≤ LARGEST_FRAME → IsLow (home_at o n)
 low_home o Slot h = h
 low_home o SlotAndShadow h = h
 low_home o (Memory size align) h = h
 
-low_homes : (homes : List Home) (at : ℕ) (ps : List Part) → end_of_all at ps ≤ 65536 → All IsLow homes → All IsLow (with_homes homes at ps)
+low_homes : (homes : List Home) (at : ℕ) (ps : List Part) → end_of_all at ps ≤ LARGEST_FRAME → All IsLow homes → All IsLow (with_homes homes at ps)
 low_homes homes at [] low all = all
 low_homes homes at (p ∷ ps) low all =
-    let far = ends_behind (end_of at p.need) ps in
+    let far = ends_after (end_of at p.need) ps in
     low_homes (set homes p.reg.0 (home_at (begin_of at p.need) p.need)) (end_of at p.need) ps low
     (All-set IsLow homes p.reg.0 (home_at (begin_of at p.need) p.need) (low_home (begin_of at p.need) p.need (omega arith)) all)
 
-pub low_table : (n : ℕ) (ps : List Part) → end_of_all 4 ps ≤ 65536 → All IsLow (with_homes (replicate n Nowhere) 4 ps)
-low_table n ps low = low_homes (replicate n Nowhere) 4 ps low (All-replicate IsLow n Nowhere tt)
+pub low_table : (n : ℕ) (ps : List Part) → end_of_all 4 ps ≤ LARGEST_FRAME → All IsLow (with_homes (replicate n NoHome) 4 ps)
+low_table n ps low = low_homes (replicate n NoHome) 4 ps low (All-replicate IsLow n NoHome tt)

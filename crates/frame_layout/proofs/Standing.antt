@@ -6,17 +6,17 @@ use Rattle.frame_layout.specs.declared.parts.Need.{Need}
 use Rattle.frame_layout.specs.declared.parts.Need.TheVariants.{Slot, SlotAndShadow, Memory}
 use Rattle.frame_layout.specs.declared.parts.Part.{Part}
 use Rattle.frame_layout.specs.declared.homes.Home.{Home}
-use Rattle.frame_layout.specs.declared.homes.Home.TheVariants.{Nowhere}
+use Rattle.frame_layout.specs.declared.homes.Home.TheVariants.{NoHome}
 use Rattle.frame_layout.specs.Parts.{begin_of, end_of, end_of_all, size_of, IsNeed}
 use Rattle.frame_layout.specs.Homes.{home_at, home_among}
 use Rattle.frame_layout.specs.Laws.{AreApart}
 use Rattle.frame_layout.proofs.Each.{Each}
 use Rattle.frame_layout.proofs.Counts.{one, times}
-use Rattle.frame_layout.proofs.Ends.{begins_behind, ends_behind}
+use Rattle.frame_layout.proofs.Ends.{begins_after, ends_after}
 use Rattle.frame_layout.proofs.Reach.{align_cases}
 use Rattle.frame_layout.proofs.Table.{choose}
 
--- a register's part, where it begins and what it needs, among parts that begin behind a place
+-- a register's part, where it begins and what it needs, among parts that begin after an offset
 abbrev pub StandsAt : ℕ → List Part → ℕ → ℕ → Need → Type 0
 StandsAt at [] r o n = ⊥
 StandsAt at (p ∷ ps) r o n = ((p.reg.0 ≡ r) × (begin_of at p.need ≡ o) × (p.need ≡ n)) ⊎ StandsAt (end_of at p.need) ps r o n
@@ -28,28 +28,28 @@ pub record Found (at : ℕ) (ps : List Part) (r : ℕ) : Type 0 where
   pub stands : StandsAt at ps r begin need
   pub is_home : home_among at ps r ≡ home_at begin need
 
-pub found : (at : ℕ) (ps : List Part) (r : ℕ) → (home_among at ps r ≡ Nowhere) ⊎ Found at ps r
+pub found : (at : ℕ) (ps : List Part) (r : ℕ) → (home_among at ps r ≡ NoHome) ⊎ Found at ps r
 found at [] r = inl refl
 found at (p ∷ ps) r = cases (nat_eq p.reg.0 r) refl (found (end_of at p.need) ps r)
   where
     x : Home
     x = home_at (begin_of at p.need) p.need
 
-    cases : (t : Bool) → nat_eq p.reg.0 r ≡ t → (home_among (end_of at p.need) ps r ≡ Nowhere) ⊎ Found (end_of at p.need) ps r → (home_among at (p ∷ ps) r ≡ Nowhere) ⊎ Found at (p ∷ ps) r
+    cases : (t : Bool) → nat_eq p.reg.0 r ≡ t → (home_among (end_of at p.need) ps r ≡ NoHome) ⊎ Found (end_of at p.need) ps r → (home_among at (p ∷ ps) r ≡ NoHome) ⊎ Found at (p ∷ ps) r
     cases true e rest = inr (record { begin = begin_of at p.need; need = p.need; stands = inl (grind (arith, nat_tests, e), refl, refl); is_home = choose true (nat_eq p.reg.0 r) (home_at (begin_of at p.need) p.need) (home_among (end_of at p.need) ps r) e })
     cases false e (inl none) = inl (choose false (nat_eq p.reg.0 r) (home_at (begin_of at p.need) p.need) (home_among (end_of at p.need) ps r) e ∙ none)
     cases false e (inr f) = inr (record { begin = f.begin; need = f.need; stands = inr f.stands; is_home = choose false (nat_eq p.reg.0 r) (home_at (begin_of at p.need) p.need) (home_among (end_of at p.need) ps r) e ∙ f.is_home })
 
--- it lies between the place and the end of the last
+-- it lies between the offset and the end of the last
 pub stands-low : (at : ℕ) (ps : List Part) (r o : ℕ) (n : Need) → StandsAt at ps r o n → at ≤ o
-stands-low at (p ∷ ps) r o n (inl h) = let b = begins_behind at p.need in let e = h.1 in omega arith
-stands-low at (p ∷ ps) r o n (inr h) = let b = begins_behind at p.need in let k = stands-low (end_of at p.need) ps r o n h in omega arith
+stands-low at (p ∷ ps) r o n (inl h) = let b = begins_after at p.need in let e = h.1 in omega arith
+stands-low at (p ∷ ps) r o n (inr h) = let b = begins_after at p.need in let k = stands-low (end_of at p.need) ps r o n h in omega arith
 stands-low at [] r o n h = absurd h
 
 pub stands-high : (at : ℕ) (ps : List Part) (r o : ℕ) (n : Need) → StandsAt at ps r o n → o + size_of n ≤ end_of_all at ps
 stands-high at [] r o n h = absurd h
 stands-high at (p ∷ ps) r o n (inl h) =
-    let far = ends_behind (end_of at p.need) ps in
+    let far = ends_after (end_of at p.need) ps in
     let begin = h.1 in
     let size : size_of p.need ≡ size_of n = ap size_of h.2 in
     omega arith

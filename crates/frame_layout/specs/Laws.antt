@@ -35,11 +35,11 @@ pub record HaveHomes (b : FlatBody) : Type 0 where
   pub only_places : (r o : ℕ) → place b r ≡ Some o → (d : RegId) × (size align : ℕ) × HasInstr b (Alloca d size align) × (d.0 ≡ r)
   pub no_slot_and_place : (r o : ℕ) → place b r ≡ Some o → slot b r ≡ None
 
--- two ranges, each from a place on, have nothing in common
+-- two ranges, each from an offset on, have nothing in common
 abbrev pub AreApart : ℕ → ℕ → ℕ → ℕ → Type 0
 AreApart o m p n = (o + m ≤ p) ⊎ (p + n ≤ o)
 
--- where the homes lie: slots and shadows behind the return address, and memory behind them
+-- where the homes lie: slots and shadows after the return address, and memory after them
 pub record LieApart (b : FlatBody) : Type 0 where
   pub slots : (r o : ℕ) → slot b r ≡ Some o → (4 ≤ o) × (o % 4 ≡ 0) × (o + 4 ≤ slots_end b)
   pub shadows : (r o : ℕ) → shadow b r ≡ Some o → (s : ℕ) × (slot b r ≡ Some s) × (o ≡ s + 4) × (o + 4 ≤ slots_end b)

@@ -1,4 +1,4 @@
--- What a frame holds behind the return address, in its order.
+-- What a frame holds after the return address, in its order.
 use Rattle.std.specs.Prelude.{ℕ, zero, suc, ◌+◌, ◌<◌, List, [], ◌∷◌, ◌++◌, map, Option, Some, None}
 use Rattle.std.specs.List.{flat_map, filter_map}
 use Rattle.std.specs.Int.{next_multiple_of}
@@ -6,10 +6,10 @@ use Rattle.std.specs.Option.{option_map}
 use Rattle.oi_base.specs.declared.ids.RegId.{RegId}
 use Rattle.ir_core.specs.declared.flat.Phi.{Phi}
 use Rattle.ir_core.specs.declared.flat.FlatInstr.{FlatInstr}
-use Rattle.ir_core.specs.declared.flat.FlatInstr.TheVariants.{Bin, Icmp, Select, Cast, Copy, Alloca, Load, Store, Gep, Call, Put, Get, Exit}
+use Rattle.ir_core.specs.declared.flat.FlatInstr.TheVariants.{Alloca}
 use Rattle.ir_core.specs.declared.flat.FlatBlock.{FlatBlock}
 use Rattle.ir_core.specs.declared.flat.FlatBody.{FlatBody}
-use Rattle.ir_core.specs.Formed.{IsAlign}
+use Rattle.ir_core.specs.Formed.{IsAlign, result_of}
 use Rattle.frame_layout.specs.declared.parts.Need.{Need}
 use Rattle.frame_layout.specs.declared.parts.Need.TheVariants.{Slot, SlotAndShadow, Memory}
 use Rattle.frame_layout.specs.declared.parts.Part.{Part}
@@ -33,19 +33,8 @@ slot_for r = part r Slot
 
 -- a slot for the register that an instruction writes, but of an alloca
 abbrev pub slot_part : FlatInstr → Option Part
-slot_part (Bin d op w a b) = Some (slot_for d)
-slot_part (Icmp d c s a b) = Some (slot_for d)
-slot_part (Select d c a b) = Some (slot_for d)
-slot_part (Cast d c from to a) = Some (slot_for d)
-slot_part (Copy d a) = Some (slot_for d)
 slot_part (Alloca d size align) = None
-slot_part (Load d s align a) = Some (slot_for d)
-slot_part (Store s align v a) = None
-slot_part (Gep d a k ts) = Some (slot_for d)
-slot_part (Call d f args) = option_map slot_for d
-slot_part (Put d a) = option_map slot_for d
-slot_part (Get d) = option_map slot_for d
-slot_part (Exit a) = None
+slot_part i = option_map slot_for (result_of i)
 
 -- the memory of an alloca
 abbrev pub alloca_part : FlatInstr → Option Part
@@ -77,7 +66,7 @@ size_of Slot = 4
 size_of SlotAndShadow = 8
 size_of (Memory size align) = size
 
--- where a part begins, where the one before it ends at a place: an alloca at the next multiple of its alignment, a slot right there
+-- where a part begins, where the one before it ends at an offset: an alloca at the next multiple of its alignment, a slot right there
 abbrev pub begin_of : ℕ → Need → ℕ
 begin_of at Slot = at
 begin_of at SlotAndShadow = at

@@ -6,7 +6,7 @@ use thiserror::Error;
 /// Why a body has no frame.
 #[derive(Clone, Copy, Debug, PartialEq, Eq, Error)]
 pub enum FrameFault {
-    /// The frame would have more than 65,536 bytes: it would have so many.
+    /// The frame would have more than `LARGEST_FRAME` bytes: it would have so many.
     #[error("frame {0}")]
     FrameTooLarge(u64),
     #[error("out of memory")]

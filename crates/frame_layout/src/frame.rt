@@ -68,7 +68,7 @@ impl Frame {
     {
         match self.homes.get(r.0 as usize) {
             Some(home) => *home,
-            None => Home::Nowhere,
+            None => Home::NoHome,
         }
     }
 }

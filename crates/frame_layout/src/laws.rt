@@ -8,7 +8,7 @@ pub fn registers_have_homes()
     ensures { (b : bodies.FlatBody) → IsWellFormed b → HaveHomes b }
 {}
 
-/// In the frame of a formed body no two homes have a byte in common, and each is aligned, behind the return address
+/// In the frame of a formed body no two homes have a byte in common, and each is aligned, after the return address
 /// and within the frame. It does nothing: its contract is the law.
 pub fn homes_lie_apart()
     ensures { (b : bodies.FlatBody) → IsWellFormed b → LieApart b }

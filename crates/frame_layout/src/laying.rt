@@ -12,7 +12,7 @@ use ir_core::FlatBody;
 use std::alloc::Global;
 
 /// The size of the largest frame, in bytes.
-const LARGEST: u64 = 65_536;
+pub const LARGEST_FRAME: u64 = 65_536;
 
 /// Where the frame of a body keeps each register.
 ///
@@ -22,7 +22,7 @@ const LARGEST: u64 = 65_536;
 pub fn layout(alloc: Global, b: &FlatBody) -> Result<Frame, FrameFault>
     requires { IsWellFormed b.now }
     ensures frame { IfOk result (λ f. f ≡ frame_of b.now) }
-    ensures fits { IfOk result (λ f. frame b.now ≤ 65536) }
+    ensures fits { IfOk result (λ f. frame b.now ≤ LARGEST_FRAME) }
     ensures bytes { IfOk result (λ f. f.bytes ≡ frame b.now) }
     ensures slots { IfOk result (λ f. (r : ℕ) → slot_of f r ≡ slot b.now r) }
     ensures shadows { IfOk result (λ f. (r : ℕ) → shadow_of f r ≡ shadow b.now r) }
@@ -38,11 +38,11 @@ pub fn framed(alloc: Global, regs: u32, parts: &[Part]) -> Result<Frame, FrameFa
     requires few { length parts.now ≤ regs }
     requires parts { All (IsPart regs) parts.now }
     ensures frame { IfOk result (λ f. f ≡ offsets regs parts.now) }
-    ensures fits { IfOk result (λ f. size parts.now ≤ 65536) }
+    ensures fits { IfOk result (λ f. size parts.now ≤ LARGEST_FRAME) }
     ensures refused { IfErr result (λ e. IsRefused (size parts.now) e) }
 {
     let bytes = end(parts).next_multiple_of(16);
-    if bytes > LARGEST {
+    if bytes > LARGEST_FRAME {
         return Err(FrameFault::FrameTooLarge(bytes));
     }
     let homes = homes(alloc, regs, parts)?;

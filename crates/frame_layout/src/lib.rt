@@ -13,4 +13,4 @@ mod tests;
 pub use faults::FrameFault;
 pub use frame::Frame;
 pub use laws::{homes_lie_apart, registers_have_homes};
-pub use laying::layout;
+pub use laying::{LARGEST_FRAME, layout};

@@ -1,4 +1,4 @@
-ghost use Rattle.std.specs.Prelude.{◌≡◌, ◌++◌, ◌∷◌, [], ◌<◌, map, OnOk, IfOk};
+ghost use Rattle.std.specs.Prelude.{◌≡◌, ◌++◌, ◌∷◌, [], ◌<◌, ◌^◌, map, OnOk, IfOk};
 ghost use Rattle.std.specs.List.{filter_map, flat_map};
 ghost use Rattle.std.specs.Option.{option_map};
 ghost use Rattle.frame_layout.specs.Parts.{parts, param_parts, slots, allocas, block_slots, block_allocas, phi_part, slot_part, slot_for, alloca_part, begin_of, end_of, size_of, IsNeed};
@@ -24,10 +24,10 @@ pub struct Part {
 }
 
 impl Need {
-    /// Where a part with this need begins, where the one before it ends at a place.
+    /// Where a part with this need begins, where the one before it ends at an offset.
     pub fn begin(self, at: u64) -> u64
         requires need { IsNeed self }
-        requires room { end_of at self < 18446744073709551616 }
+        requires room { end_of at self < 2 ^ 64 }
         ensures { result ≡ begin_of at self }
     {
         match self {
@@ -39,7 +39,7 @@ impl Need {
     /// Where such a part ends.
     pub fn end(self, at: u64) -> u64
         requires need { IsNeed self }
-        requires room { end_of at self < 18446744073709551616 }
+        requires room { end_of at self < 2 ^ 64 }
         ensures { result ≡ end_of at self }
     {
         self.begin(at) + self.size() as u64
@@ -56,7 +56,7 @@ impl Need {
     }
 }
 
-/// The parts of a body's frame behind the return address, in its order: each parameter, each register that is no
+/// The parts of a body's frame after the return address, in its order: each parameter, each register that is no
 /// alloca in the order of the body's text, and each alloca in that order.
 pub fn parts(alloc: Global, b: &FlatBody) -> Result<Vec<Part>, NoMemory>
     ensures { IfOk result (λ ps. ps.items ≡ parts b.now) }
@@ -144,15 +144,8 @@ fn slot_part(instr: &FlatInstr) -> Option<Part>
     ensures { result ≡ slot_part instr.now }
 {
     match instr {
-        FlatInstr::Bin(r, _, _, _, _)
-        | FlatInstr::Icmp(r, _, _, _, _)
-        | FlatInstr::Select(r, _, _, _)
-        | FlatInstr::Cast(r, _, _, _, _)
-        | FlatInstr::Copy(r, _)
-        | FlatInstr::Load(r, _, _, _)
-        | FlatInstr::Gep(r, _, _, _) => Some(slot_for(*r)),
-        FlatInstr::Call(r, _, _) | FlatInstr::Put(r, _) | FlatInstr::Get(r) => result_part(*r),
-        FlatInstr::Alloca(_, _, _) | FlatInstr::Store(_, _, _, _) | FlatInstr::Exit(_) => None,
+        FlatInstr::Alloca(_, _, _) => None,
+        _ => result_part(instr.result()),
     }
 }
 

@@ -17,7 +17,7 @@ use std::test::Fail;
 // Expected values are those of a plain model. A line has the number of parameters, the number of registers and the
 // blocks with `/` between them; in a block `p` is a phi, `b` a copy, `g` a get, `s` a store and `a` an alloca with its
 // size and alignment, each with the register that it writes. Then stand the frame's bytes and each register's home:
-// `s` a slot, `p` a slot with its shadow behind it, `m` memory.
+// `s` a slot, `p` a slot with its shadow after it, `m` memory.
 const FRAMES: &str = "0 0 -|16
 1 1 -|16 s4
 3 3 -|16 s4 s8 s12

@@ -7,7 +7,7 @@ use Rattle.std.proofs.lemmas.Option.{slice_get_within, slice_get-get_or}
 use Rattle.oi_base.specs.declared.ids.Place.{Place}
 use Rattle.ir_core.specs.declared.func.Func.{Func}
 use Rattle.ir_core.specs.FirstBroken.{IsFirstPlace}
-use Rattle.ir_core.specs.Stands.{is_up_to}
+use Rattle.ir_core.specs.Operands.{is_up_to}
 use Rattle.ir_core.specs.ValidPaths.{IsUse, IsAssigned, BreaksAssignment}
 use Rattle.ir_core.proofs.Lists.{has_at, contains}
 use Rattle.ir_assigned.specs.declared.fault.Unassigned.{Unassigned}
@@ -16,7 +16,7 @@ use Rattle.ir_assigned.specs.Assigned.{IsWitness}
 use Rattle.ir_assigned.specs.Names.{AreLabels, LabelsDiffer}
 use Rattle.ir_assigned.specs.Testing.{IsFaultOf, IsFirst}
 use Rattle.ir_assigned.specs.Uses.{all_uses}
-use Rattle.ir_assigned.specs.Ways.{MissesOn}
+use Rattle.ir_assigned.specs.BlockPaths.{MissesOn}
 use Rattle.ir_assigned.proofs.Paths.{has_contained}
 use Rattle.ir_assigned.proofs.Using.{listed_is_use, use_is_listed, use_within}
 

@@ -5,10 +5,10 @@ use Rattle.std.proofs.lemmas.Bool.{cases_lt}
 use Rattle.std.proofs.lemmas.Bool.Decides.{nat_tests}
 use Rattle.oi_base.specs.declared.ids.Place.{Place}
 use Rattle.ir_core.specs.declared.func.Func.{Func}
-use Rattle.ir_core.specs.Stands.{is_up_to}
+use Rattle.ir_core.specs.Operands.{is_up_to}
 use Rattle.ir_assigned.specs.declared.fault.Unassigned.{Unassigned}
 use Rattle.ir_assigned.specs.declared.uses.Use.{Use}
-use Rattle.ir_assigned.specs.Ways.{MissesOn}
+use Rattle.ir_assigned.specs.BlockPaths.{MissesOn}
 use Rattle.ir_assigned.specs.Testing.{is_known, IsFaultOf, IsEarlier, Known, Good, Newer, IsFirst}
 use Rattle.ir_assigned.proofs.Tables.{one_at}
 

@@ -1,4 +1,4 @@
--- Whether the rule of assignment is broken, and where first: each use is tested by the ways to it around its definition.
+-- Whether the rule of assignment is broken, and where first: each use is tested by the paths to it around its definition.
 use Rattle.std.proofs.Common.{◌≡◌, ◌≢◌, ◌⊎◌, inl, inr, ⊎_elim, ℕ, zero, suc, ◌+◌, ◌<◌, ◌≤◌, Bool, true, false, List, [], ◌∷◌, ◌++◌, length, Option, Some, None, slice_get, refl, ap, subst, arith}
 use Rattle.std.specs.List.Sorted.{IsPermutation}
 use Rattle.std.proofs.lemmas.List.Sorted.{IsPermutation-refl}
@@ -19,14 +19,14 @@ use Rattle.ir_assigned.specs.Assigned.{IsWitness}
 use Rattle.ir_assigned.specs.Names.{found, AreLabelsTo, AreLabels, AreDefinitionsTo, AreDefinitions, PutsResult, PutsDefinitions, RegistersDiffer}
 use Rattle.ir_assigned.specs.Testing.{is_known, Known, Good, Newer, IsFirst}
 use Rattle.ir_assigned.specs.Uses.{all_uses}
-use Rattle.ir_assigned.specs.Ways.{block_of, IsBefore, MissesOn, Misses}
+use Rattle.ir_assigned.specs.BlockPaths.{block_of, IsBefore, MissesOn, Misses}
 use Rattle.ir_assigned.proofs.Breaking.{none_broken, first_place, first_witness}
 use Rattle.ir_assigned.proofs.First.{first_more}
 use Rattle.ir_assigned.proofs.Naming.{labels_differ, registers_differ}
-use Rattle.ir_assigned.proofs.Paths.{has_contained, param_misses_none, way_when_missed, misses_on_way}
+use Rattle.ir_assigned.proofs.Paths.{has_contained, param_misses_none, path_when_missed, misses_on_path}
 use Rattle.ir_assigned.proofs.Tables.{labels_more, puts_more, definitions_more}
 use Rattle.ir_assigned.proofs.Tested.{before_good}
-use Rattle.ir_assigned.proofs.WaysDecided.{same_or_not, one_has, leads_or_not}
+use Rattle.ir_assigned.proofs.PathsDecided.{same_or_not, one_has, leads_or_not}
 
 -- ---- tables
 
@@ -111,15 +111,15 @@ module _ (f : Func) where
     missed_or_not : Missed
     missed_or_not = by_param param_or_not
       where
-        by_way : (IsParam f u.local → ⊥) → (IsBefore (found definitions u.local.0) u → ⊥) → Missed
-        by_way no_param late = ⊎_elim
-            (λ l. inl (l.0 ++ u.block ∷ [], (l.0, refl, misses_on_way f definitions are u apart no_param late l.0 l.1)))
-            (λ none. inr (λ before m. none before (way_when_missed f definitions are u before m)))
+        by_path : (IsParam f u.local → ⊥) → (IsBefore (found definitions u.local.0) u → ⊥) → Missed
+        by_path no_param late = ⊎_elim
+            (λ l. inl (l.0 ++ u.block ∷ [], (l.0, refl, misses_on_path f definitions are u apart no_param late l.0 l.1)))
+            (λ none. inr (λ before m. none before (path_when_missed f definitions are u before m)))
             (leads_or_not f (block_of (found definitions u.local.0)) u.block 0)
 
         by_before : (IsParam f u.local → ⊥) → IsBefore (found definitions u.local.0) u ⊎ (IsBefore (found definitions u.local.0) u → ⊥) → Missed
         by_before no_param (inl h) = inr (before_good f definitions are u (found definitions u.local.0) refl h)
-        by_before no_param (inr late) = by_way no_param late
+        by_before no_param (inr late) = by_path no_param late
 
         by_param : IsParam f u.local ⊎ (IsParam f u.local → ⊥) → Missed
         by_param (inl p) = inr (param_misses_none f definitions are u p)

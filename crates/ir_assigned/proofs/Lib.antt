@@ -8,5 +8,6 @@ pub mod Tested
 pub mod Using
 pub mod Breaking
 pub mod Told
-pub mod WaysDecided
+pub mod PathsDecided
 pub mod FirstDecided
+pub mod ByPosition

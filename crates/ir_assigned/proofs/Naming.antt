@@ -68,7 +68,7 @@ module _ {A B : Type 0} (g : A → List B) where
   before_from (z ∷ zs) (suc k) (suc l) x y u v lt a b s t = before_right (g z) (flat_map g zs) u v (before_from zs k l x y u v (omega (arith, lt)) a b s t)
 
 module _ (f : Func) (names : (p : Place) → BreaksNames f p → ⊥) where
-  -- two things of one name, the second behind the first
+  -- two things of one name, the second after the first
   never : (x y : LocalAt) → Before (flat_map block_locals_at f.blocks) x y → x.name ≡ y.name → ⊥
   never x y h same =
       let all = before_right (map (λ (q : Param). record { name = q.name; place = f.place }) f.params) (flat_map block_locals_at f.blocks) x y h in

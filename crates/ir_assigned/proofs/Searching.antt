@@ -1,4 +1,4 @@
--- The search for a way: what it keeps, and what its end tells.
+-- The search for a path: what it keeps, and what its end tells.
 use Rattle.std.proofs.Common.{◌≡◌, ◌≢◌, ◌⊎◌, inl, inr, ⊎_elim, ℕ, zero, suc, ◌+◌, ◌<◌, ◌≤◌, ◌==◌, Bool, true, false, if◌then◌else◌, List, [], ◌∷◌, ◌++◌, length, Some, slice_get, slice_set, slice_index_or, take, Contains, refl, sym, ap, ◌∙◌, subst, arith}
 use Rattle.std.proofs.lemmas.Bool.{cases_lt, cases_eq}
 use Rattle.std.proofs.lemmas.Bool.Decides.{nat_tests}
@@ -9,7 +9,7 @@ use Rattle.ir_core.specs.ValidPaths.{IsSuccessor}
 use Rattle.ir_assigned.specs.declared.search.Step.{Step}
 use Rattle.ir_assigned.specs.declared.search.Aim.{Aim}
 use Rattle.ir_assigned.specs.Search.{State, mark, IsMarked, entered, unmarked, left, AreMarks, IsOffered, Skipped, Entered, IsDone, IsClean, IsWaiting, AreSteps, Inv, Onward, Spreads, IsAlong, IsLeading}
-use Rattle.ir_assigned.specs.Ways.{Way, IsWayTo}
+use Rattle.ir_assigned.specs.BlockPaths.{IsRoute, IsPathTo}
 use Rattle.ir_assigned.proofs.Tables.{one_at}
 
 -- ---- lists, one longer
@@ -255,22 +255,22 @@ module _ (f : Func) (aim : Aim) (positive : 0 < aim.round) where
 
   -- ---- what the search found
 
-  all_marked : (s : State) → IsClean f aim s → (b v : ℕ) (rest : List ℕ) → IsMarked aim.round s b → Way f aim.around b v rest → IsMarked aim.round s v
-  all_marked s clean b v [] m way = subst (IsMarked aim.round s) (sym way) m
-  all_marked s clean b v (u ∷ rest) m way =
-      let next = all_marked s clean b way.2.0 rest m way.2.2 in
-      ⊎_elim (λ a. absurd (way.1 a)) (λ m'. m') ((clean way.2.0 next).1 v way.2.1)
+  all_marked : (s : State) → IsClean f aim s → (b v : ℕ) (rest : List ℕ) → IsMarked aim.round s b → IsRoute f aim.around b v rest → IsMarked aim.round s v
+  all_marked s clean b v [] m route = subst (IsMarked aim.round s) (sym route) m
+  all_marked s clean b v (u ∷ rest) m route =
+      let next = all_marked s clean b route.2.0 rest m route.2.2 in
+      ⊎_elim (λ a. absurd (route.1 a)) (λ m'. m') ((clean route.2.0 next).1 v route.2.1)
 
-  pub no_way : (s : State) → IsClean f aim s → (b : ℕ) → IsMarked aim.round s b → (before : List ℕ) → Way f aim.around b 0 before → ⊥
-  no_way s clean b m before way = (clean 0 (all_marked s clean b 0 before m way)).0 refl
+  pub no_path : (s : State) → IsClean f aim s → (b : ℕ) → IsMarked aim.round s b → (before : List ℕ) → IsRoute f aim.around b 0 before → ⊥
+  no_path s clean b m before route = (clean 0 (all_marked s clean b 0 before m route)).0 refl
 
 module _ (f : Func) (aim : Aim) where
   module _ (queue : List Step) (at : ℕ) where
     pub leads_on : (from : ℕ) (path : List ℕ) (d g : Step) → IsLeading f aim queue at from path → slice_get queue from ≡ Some d → slice_get queue d.after ≡ Some g → IsSuccessor f d.block g.block → (aim.around ≡ Some d.block → ⊥) → IsLeading f aim queue at d.after (path ++ d.block ∷ [])
-    leads_on from path d g leading here there goes free b d' e rest he hd way =
+    leads_on from path d g leading here there goes free b d' e rest he hd route =
         let same : d' ≡ g = one_at queue d.after d' g hd there in
-        let way' : Way f aim.around b g.block rest = subst (λ (z : Step). Way f aim.around b z.block rest) same way in
-        subst (Way f aim.around b e.block) (sym (append_assoc path (d.block ∷ []) rest)) (leading b d e (d.block ∷ rest) he here (refl, free, (g.block, goes, way')))
+        let route' : IsRoute f aim.around b g.block rest = subst (λ (z : Step). IsRoute f aim.around b z.block rest) same route in
+        subst (IsRoute f aim.around b e.block) (sym (append_assoc path (d.block ∷ []) rest)) (leading b d e (d.block ∷ rest) he here (refl, free, (g.block, goes, route')))
 
     pub leads_more : (from : ℕ) (path new : List ℕ) (d e : Step) → AreSteps f aim queue → 0 < from → slice_get queue from ≡ Some d → slice_get queue from ≡ Some e → new ≡ path ++ d.block ∷ [] → IsLeading f aim queue at from path → (e.after < length queue) × IsLeading f aim queue at e.after new
     leads_more from path new d e steps pos hd he is leading =
@@ -283,13 +283,13 @@ module _ (f : Func) (aim : Aim) where
     pub along : (path : List ℕ) (d : Step) → IsLeading f aim queue at 0 path → slice_get queue 0 ≡ Some d → IsAlong f aim queue at (path ++ d.block ∷ [])
     along path d leading first r e hr he =
         let same : d ≡ r = one_at queue 0 d r first hr in
-        (path, ap (λ (z : Step). path ++ z.block ∷ []) same, subst (Way f aim.around r.block e.block) (append-nil path) (leading r.block r e [] he hr refl))
+        (path, ap (λ (z : Step). path ++ z.block ∷ []) same, subst (IsRoute f aim.around r.block e.block) (append-nil path) (leading r.block r e [] he hr refl))
 
     pub leads_at : IsLeading f aim queue at at []
-    leads_at b d e rest he hd way = let same : d ≡ e = one_at queue at d e hd he in subst (λ (z : Step). Way f aim.around b z.block rest) same way
+    leads_at b d e rest he hd route = let same : d ≡ e = one_at queue at d e hd he in subst (λ (z : Step). IsRoute f aim.around b z.block rest) same route
 
-  -- a way to the block of the first step
-  pub way_found : (queue : List Step) (at v : ℕ) (path : List ℕ) (r e : Step) → IsAlong f aim queue at path → slice_get queue 0 ≡ Some r → r.block ≡ v → slice_get queue at ≡ Some e → e.block ≡ 0 → IsWayTo f aim.around v path
-  way_found queue at v path r e is hr rv he zero_is =
+  -- a path to the block of the first step
+  pub path_found : (queue : List Step) (at v : ℕ) (path : List ℕ) (r e : Step) → IsAlong f aim queue at path → slice_get queue 0 ≡ Some r → r.block ≡ v → slice_get queue at ≡ Some e → e.block ≡ 0 → IsPathTo f aim.around v path
+  path_found queue at v path r e is hr rv he zero_is =
       let w = is r e hr he in
-      (w.0, w.1 ∙ ap (λ z. w.0 ++ z ∷ []) rv, subst (λ z. Way f aim.around v z w.0) zero_is (subst (λ z. Way f aim.around z e.block w.0) rv w.2))
+      (w.0, w.1 ∙ ap (λ z. w.0 ++ z ∷ []) rv, subst (λ z. IsRoute f aim.around v z w.0) zero_is (subst (λ z. IsRoute f aim.around z e.block w.0) rv w.2))

@@ -11,8 +11,8 @@ use Rattle.ir_assigned.specs.declared.search.Aim.{Aim}
 use Rattle.ir_assigned.specs.Names.{found, AreDefinitions, RegistersDiffer}
 use Rattle.ir_assigned.specs.Search.{State, IsClean}
 use Rattle.ir_assigned.specs.Testing.{aim_of}
-use Rattle.ir_assigned.specs.Ways.{Way, IsWayTo, block_of, IsBefore, MissesOn, Misses}
-use Rattle.ir_assigned.proofs.Paths.{param_misses_none, before_misses_none, way_when_missed, misses_on_way}
+use Rattle.ir_assigned.specs.BlockPaths.{IsRoute, IsPathTo, block_of, IsBefore, MissesOn, Misses}
+use Rattle.ir_assigned.proofs.Paths.{param_misses_none, before_misses_none, path_when_missed, misses_on_path}
 
 module _ (f : Func) (definitions : List (Option Spot)) (are : AreDefinitions f definitions) (u : Use) where
   pub param_good : (params : List Param) → params ≡ f.params → (q : Param) × Contains params q × (q.name ≡ u.local) → (before : List ℕ) → MissesOn f u before → ⊥
@@ -26,17 +26,17 @@ module _ (f : Func) (definitions : List (Option Spot)) (are : AreDefinitions f d
   before_good o e h = before_found o (sym e) h
 
   module _ (around : Option ℕ) (is : around ≡ block_of (found definitions u.local.0)) where
-    pub way_good : (way : Option (List ℕ)) → way ≡ None → MatchOption way ((before : List ℕ) → Way f around u.block 0 before → ⊥) (IsWayTo f around u.block) → (before : List ℕ) → MissesOn f u before → ⊥
-    way_good way none exact before m =
-        let none_there = subst (λ o. MatchOption o ((b : List ℕ) → Way f around u.block 0 b → ⊥) (IsWayTo f around u.block)) none exact in
-        none_there before (subst (λ a. Way f a u.block 0 before) (sym is) (way_when_missed f definitions are u before m))
+    pub path_good : (route : Option (List ℕ)) → route ≡ None → MatchOption route ((before : List ℕ) → IsRoute f around u.block 0 before → ⊥) (IsPathTo f around u.block) → (before : List ℕ) → MissesOn f u before → ⊥
+    path_good route none exact before m =
+        let none_there = subst (λ o. MatchOption o ((b : List ℕ) → IsRoute f around u.block 0 b → ⊥) (IsPathTo f around u.block)) none exact in
+        none_there before (subst (λ a. IsRoute f a u.block 0 before) (sym is) (path_when_missed f definitions are u before m))
 
-  pub way_missed : RegistersDiffer f → (params : List Param) → params ≡ f.params → ((q : Param) → Contains params q → q.name ≢ u.local) → (o : Option Spot) → o ≡ found definitions u.local.0 → (IsBefore o u → ⊥)
-      → (around : Option ℕ) → around ≡ block_of (found definitions u.local.0) → (way : Option (List ℕ)) (path : List ℕ) → way ≡ Some path → MatchOption way ((before : List ℕ) → Way f around u.block 0 before → ⊥) (IsWayTo f around u.block) → Misses f u path
-  way_missed apart params same other o e late around is way path some exact =
-      let w = subst (λ o. MatchOption o ((b : List ℕ) → Way f around u.block 0 b → ⊥) (IsWayTo f around u.block)) some exact in
+  pub path_missed : RegistersDiffer f → (params : List Param) → params ≡ f.params → ((q : Param) → Contains params q → q.name ≢ u.local) → (o : Option Spot) → o ≡ found definitions u.local.0 → (IsBefore o u → ⊥)
+      → (around : Option ℕ) → around ≡ block_of (found definitions u.local.0) → (route : Option (List ℕ)) (path : List ℕ) → route ≡ Some path → MatchOption route ((before : List ℕ) → IsRoute f around u.block 0 before → ⊥) (IsPathTo f around u.block) → Misses f u path
+  path_missed apart params same other o e late around is route path some exact =
+      let w = subst (λ o. MatchOption o ((b : List ℕ) → IsRoute f around u.block 0 b → ⊥) (IsPathTo f around u.block)) some exact in
       let no_param : IsParam f u.local → ⊥ = (λ p. other p.0 (subst (λ ps. Contains ps p.0) (sym same) p.1) p.2) in
-      (w.0, w.1, misses_on_way f definitions are u apart no_param (λ h. late (subst (λ z. IsBefore z u) (sym e) h)) w.0 (subst (λ a. Way f a u.block 0 w.0) is w.2))
+      (w.0, w.1, misses_on_path f definitions are u apart no_param (λ h. late (subst (λ z. IsBefore z u) (sym e) h)) w.0 (subst (λ a. IsRoute f a u.block 0 w.0) is w.2))
 
 module _ (f : Func) (definitions : List (Option Spot)) (round : ℕ) (y : LocalId) (around : Option ℕ) (is : around ≡ block_of (found definitions y.0)) (s : State) where
   abbrev aim : Option ℕ → Aim

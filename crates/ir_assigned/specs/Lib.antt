@@ -4,4 +4,4 @@ pub mod Names
 pub mod Search
 pub mod Testing
 pub mod Uses
-pub mod Ways
+pub mod BlockPaths

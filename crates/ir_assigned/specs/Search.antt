@@ -1,8 +1,8 @@
--- What the search for a way keeps.
+-- What the search for a path keeps.
 use Rattle.std.specs.Prelude.{◌≡◌, ◌≢◌, ◌⊎◌, ℕ, ◌+◌, ◌<◌, ◌≤◌, ◌==◌, if◌then◌else◌, List, [], ◌∷◌, ◌++◌, length, Option, Some, None, slice_get, slice_set, slice_index_or}
 use Rattle.ir_core.specs.declared.func.Func.{Func}
 use Rattle.ir_core.specs.ValidPaths.{IsSuccessor}
-use Rattle.ir_assigned.specs.Ways.{Way}
+use Rattle.ir_assigned.specs.BlockPaths.{IsRoute}
 use Rattle.ir_assigned.specs.declared.search.Step.{Step}
 use Rattle.ir_assigned.specs.declared.search.Aim.{Aim}
 use Rattle.ir_assigned.specs.declared.search.Search.{Search}
@@ -50,7 +50,7 @@ module _ (f : Func) (aim : Aim) where
   abbrev pub IsDone : State → ℕ → Type 0
   IsDone s v = (v ≢ 0) × ((u : ℕ) → IsSuccessor f u v → (aim.around ≡ Some u) ⊎ IsMarked aim.round s u)
 
-  -- no way leads from the entry to where the searches of this round came
+  -- no path leads from the entry to where the searches of this round came
   abbrev pub IsClean : State → Type 0
   IsClean s = (v : ℕ) → IsMarked aim.round s v → IsDone s v
 
@@ -61,7 +61,7 @@ module _ (f : Func) (aim : Aim) where
   abbrev pub AreSteps : List Step → Type 0
   AreSteps queue = (i : ℕ) (e : Step) → slice_get queue i ≡ Some e → 0 < i → (g : Step) × (e.after < i) × (slice_get queue e.after ≡ Some g) × IsSuccessor f e.block g.block × (aim.around ≡ Some e.block → ⊥)
 
-  -- the search for a way to the block of the first step, where the steps before one are done
+  -- the search for a path to the block of the first step, where the steps before one are done
   pub record Inv (at : ℕ) (s : State) : Type 0 where
     pub marks : AreMarks (length f.blocks) aim.round s
     pub steps : AreSteps s.queue
@@ -80,15 +80,15 @@ module _ (f : Func) (aim : Aim) where
     pub left : left aim.round new ≡ left aim.round old
     pub offered : (k u : ℕ) → slice_get vs k ≡ Some u → (aim.around ≡ Some u) ⊎ IsMarked aim.round new u
 
-  -- the search is over: no way leads from the entry, or a step is at the entry
+  -- the search is over: no path leads from the entry, or a step is at the entry
   abbrev pub IsOver : Option ℕ → State → Type 0
   IsOver None s = IsClean s
   IsOver (Some at) s = AreSteps s.queue × ((e : Step) × (slice_get s.queue at ≡ Some e) × (e.block ≡ 0))
 
   -- blocks along the steps, from that of one to that of the first
   abbrev pub IsAlong : List Step → ℕ → List ℕ → Type 0
-  IsAlong queue at path = (r e : Step) → slice_get queue 0 ≡ Some r → slice_get queue at ≡ Some e → (before : List ℕ) × (path ≡ before ++ r.block ∷ []) × Way f aim.around r.block e.block before
+  IsAlong queue at path = (r e : Step) → slice_get queue 0 ≡ Some r → slice_get queue at ≡ Some e → (before : List ℕ) × (path ≡ before ++ r.block ∷ []) × IsRoute f aim.around r.block e.block before
 
   -- blocks along the steps from one to another, which isn't among them
   abbrev pub IsLeading : List Step → ℕ → ℕ → List ℕ → Type 0
-  IsLeading queue at from path = (b : ℕ) (d e : Step) (rest : List ℕ) → slice_get queue at ≡ Some e → slice_get queue from ≡ Some d → Way f aim.around b d.block rest → Way f aim.around b e.block (path ++ rest)
+  IsLeading queue at from path = (b : ℕ) (d e : Step) (rest : List ℕ) → slice_get queue at ≡ Some e → slice_get queue from ≡ Some d → IsRoute f aim.around b d.block rest → IsRoute f aim.around b e.block (path ++ rest)

@@ -3,7 +3,7 @@ use Rattle.std.specs.Prelude.{◌≡◌, ℕ, ◌<◌, Bool, false, IsTrue, List
 use Rattle.oi_base.specs.declared.ids.Place.{Place}
 use Rattle.ir_core.specs.declared.op.LocalId.{LocalId}
 use Rattle.ir_core.specs.declared.func.Func.{Func}
-use Rattle.ir_core.specs.Stands.{is_up_to}
+use Rattle.ir_core.specs.Operands.{is_up_to}
 use Rattle.ir_assigned.specs.declared.fault.Unassigned.{Unassigned}
 use Rattle.ir_assigned.specs.declared.names.Spot.{Spot}
 use Rattle.ir_assigned.specs.declared.uses.Use.{Use}
@@ -11,9 +11,9 @@ use Rattle.ir_assigned.specs.declared.search.Aim.{Aim}
 use Rattle.ir_assigned.specs.declared.tester.Tester.{Tester}
 use Rattle.ir_assigned.specs.Names.{found}
 use Rattle.ir_assigned.specs.Search.{state, AreMarks, IsClean}
-use Rattle.ir_assigned.specs.Ways.{block_of, Misses, MissesOn}
+use Rattle.ir_assigned.specs.BlockPaths.{block_of, Misses, MissesOn}
 
--- a search for ways around the definition of a register
+-- a search for paths around the definition of a register
 abbrev pub aim_of : List (Option Spot) → ℕ → LocalId → Aim
 aim_of definitions round x = record { round = round; around = block_of (found definitions x.0) }
 

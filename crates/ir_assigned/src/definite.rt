@@ -12,7 +12,8 @@ use crate::names::{definitions, labels};
 use crate::tester::first_unassigned;
 use crate::uses::{Use, uses_of};
 use ir_core::Func;
-use std::alloc::{AllocError, Global};
+use oi_base::NoMemory;
+use std::alloc::Global;
 
 /// Tests that on every path from the entry to a use of a register its definition comes first; a phi uses a value at the
 /// end of its entry's block. Its condition is that the function stands in a proper module and meets the other rules there.
@@ -46,8 +47,8 @@ pub(crate) fn first_fault(alloc: Global, f: &Func) -> Result<(), AssignFault>
 }
 
 /// Puts the uses of one register side by side.
-fn sort(uses: &mut Vec<Use>) -> Result<(), AllocError>
+fn sort(uses: &mut Vec<Use>) -> Result<(), NoMemory>
     ensures { IsPermutation uses.old.items uses.new.items }
 {
-    uses.sort_by_key(|u| u.local.0)
+    Ok(uses.sort_by_key(|u| u.local.0)?)
 }

@@ -3,7 +3,6 @@ ghost use Rattle.ir_assigned.specs.declared.fault.AssignFault.TheVariants.{NoMem
 
 use ir_core::LocalId;
 use oi_base::{Items, NoMemory, Place};
-use std::alloc::{AllocError, AllocFailed};
 use thiserror::Error;
 
 /// Positions of blocks in a function's text, from 0. Contracts see it as the list.
@@ -33,22 +32,6 @@ impl From<NoMemory> for AssignFault {
     ghost from_gives = { λ _ e. e ≡ NoMemory };
 
     fn from(_error: NoMemory) -> AssignFault {
-        AssignFault::NoMemory
-    }
-}
-
-impl From<AllocError> for AssignFault {
-    ghost from_gives = { λ _ e. e ≡ NoMemory };
-
-    fn from(_error: AllocError) -> AssignFault {
-        AssignFault::NoMemory
-    }
-}
-
-impl<T: Drop> From<AllocFailed<T>> for AssignFault {
-    ghost from_gives = { λ _ e. e ≡ NoMemory };
-
-    fn from(_error: AllocFailed<T>) -> AssignFault {
         AssignFault::NoMemory
     }
 }

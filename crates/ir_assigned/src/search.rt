@@ -1,7 +1,7 @@
 ghost use Rattle.std.specs.Prelude.{◌≡◌, ◌<◌, ℕ, List, length, Some, None, OnOk, IfOk, MatchOption, slice_get};
 ghost use Rattle.ir_assigned.specs.declared.search.Step as step;
 ghost use Rattle.ir_assigned.specs.Search.{state, entered, IsOffered, AreMarks, IsClean, AreSteps, Inv, Onward, Spreads, IsOver, IsAlong};
-ghost use Rattle.ir_assigned.specs.Ways.{Way, IsWayTo};
+ghost use Rattle.ir_assigned.specs.BlockPaths.{IsRoute, IsPathTo};
 ghost use Rattle.ir_core.specs.ValidPaths.{IsSuccessor};
 
 use crate::fault::BlockPath;
@@ -16,15 +16,15 @@ pub struct Aim {
     pub around: Option<usize>,
 }
 
-/// A block to which the search came, and the number of the step that comes after it on the way.
+/// A block to which the search came, and the number of the step that comes after it on the path.
 #[derive(Clone, Copy)]
 pub struct Step {
     pub block: usize,
     pub after: usize,
 }
 
-/// A search for a way from the entry to a block, from that block backwards. A mark is the number of the last search that
-/// came to a block; searches of one number go on where earlier ones found no way.
+/// A search for a path from the entry to a block, from that block backwards. A mark is the number of the last search that
+/// came to a block; searches of one number go on where earlier ones found no path.
 #[derive(Drop)]
 pub struct Search {
     marks: Vec<usize>,
@@ -126,8 +126,8 @@ impl Search {
         Ok(Items::from_vec(path))
     }
 
-    /// A way from the entry to a block.
-    pub fn way_to(
+    /// A path from the entry to a block.
+    pub fn path_from_entry(
         &mut self,
         alloc: Global,
         graph: &Graph<'_>,
@@ -139,8 +139,8 @@ impl Search {
         requires clean { IsClean graph.now aim (state self.old) }
         requires within { block < length graph.now.blocks }
         ensures marks { OnOk result (AreMarks (length graph.now.blocks) aim.round (state self.new)) }
-        ensures none { IfOk result (λ way. way ≡ None → IsClean graph.now aim (state self.new)) }
-        ensures exact { IfOk result (λ way. MatchOption way ((before : List ℕ) → Way graph.now aim.around block 0 before → ⊥) (IsWayTo graph.now aim.around block)) }
+        ensures none { IfOk result (λ route. route ≡ None → IsClean graph.now aim (state self.new)) }
+        ensures exact { IfOk result (λ route. MatchOption route ((before : List ℕ) → IsRoute graph.now aim.around block 0 before → ⊥) (IsPathTo graph.now aim.around block)) }
     {
         if self.marks[block] == aim.round {
             return Ok(None);

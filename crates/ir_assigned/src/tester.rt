@@ -1,11 +1,11 @@
 ghost use Rattle.std.specs.Prelude.{◌≡◌, ◌≢◌, ◌<◌, ◌≤◌, ℕ, List, Option, IfOk, OnOk, MatchOption, length, slice_get, Contains, true, false, Some};
 ghost use Rattle.ir_core.specs.declared.func.Func as functions;
 ghost use Rattle.ir_core.specs.declared.func.Param as param;
-ghost use Rattle.ir_core.specs.Stands.{is_up_to};
+ghost use Rattle.ir_core.specs.Operands.{is_up_to};
 ghost use Rattle.ir_assigned.specs.declared.names.Spot as spot;
 ghost use Rattle.ir_assigned.specs.declared.uses.Use as usage;
 ghost use Rattle.ir_assigned.specs.Names.{AreDefinitions, RegistersDiffer};
-ghost use Rattle.ir_assigned.specs.Ways.{block_of, IsBefore, Misses, MissesOn};
+ghost use Rattle.ir_assigned.specs.BlockPaths.{block_of, IsBefore, Misses, MissesOn};
 ghost use Rattle.ir_assigned.specs.Testing.{IsTesting, IsEarlier, IsFirst, is_known};
 
 use crate::fault::{BlockPath, Unassigned};
@@ -18,7 +18,7 @@ use ir_core::{LocalId, Param};
 use oi_base::{NoMemory, Place};
 use std::alloc::Global;
 
-/// A test of uses one after another. The marks of the search's last round are those of searches for ways around the
+/// A test of uses one after another. The marks of the search's last round are those of searches for paths around the
 /// definition of `local`, where that is some, none of which found one.
 #[derive(Drop)]
 pub struct Tester {
@@ -81,7 +81,7 @@ impl Tester {
             round: self.round,
             around: block_of(definition),
         };
-        match self.search.way_to(alloc, graph, aim, u.block)? {
+        match self.search.path_from_entry(alloc, graph, aim, u.block)? {
             Some(path) => {
                 self.local = None;
                 Ok(Some(path))

@@ -14,7 +14,7 @@ use oi_base::{Items, NoMemory, Place};
 use std::alloc::{AllocError, Global};
 use std::test::Fail;
 
-// Expected values are those of a plain model. Each line has a function, and behind `|` the line of the first fault, if any.
+// Expected values are those of a plain model. Each line has a function, and after `|` the line of the first fault, if any.
 // A function's lines stand between `;`: `d` the definition with the entry's label and the parameters, `n` nothing, `b` a
 // label, `i` an operation on two values, `s` a store, `f` a phi with its values and labels, and the terminators `r`, `j`,
 // `c` and `w`.

@@ -1,10 +1,9 @@
-ghost use Rattle.std.specs.Prelude.{◌≡◌, ◌++◌, OnOk, IfOk, map};
+ghost use Rattle.std.specs.Prelude.{◌≡◌, ◌++◌, OnOk, IfOk};
 ghost use Rattle.ir_assigned.specs.Uses as all;
-ghost use Rattle.ir_core.specs.Parts.{end_values, values_of};
-ghost use Rattle.ir_core.specs.declared.op.SwitchCase as case_of;
+ghost use Rattle.ir_core.specs.Parts.{op_values, end_values};
 
 use crate::table::get;
-use ir_core::{Block, Blocks, End, Func, LocalId, Op, Operand, Pair, SwitchCase, TypedOperand};
+use ir_core::{Block, Blocks, End, Func, LocalId, Op, Operand, Pair};
 use oi_base::{NoMemory, Place};
 use std::alloc::Global;
 
@@ -81,23 +80,21 @@ fn push_op_uses(reader: Reader, op: &Op, uses: &mut Vec<Use>) -> Result<(), NoMe
     ensures { OnOk result (uses.new.items ≡ uses.old.items ++ all.op_uses reader op.now) }
 {
     match op {
-        Op::Bin(_, _, a, b) => push_two(reader, a, b, uses),
-        Op::Icmp(_, _, a, b) => push_two(reader, a, b, uses),
-        Op::Select(c, a, b) => {
-            push_use(reader, &c.value, uses)?;
-            push_two(reader, &a.value, &b.value, uses)
-        }
-        Op::Cast(_, a, _) => push_use(reader, &a.value, uses),
-        Op::Alloca(_, _, _) => Ok(()),
-        Op::Load(_, a, _) => push_use(reader, &a.value, uses),
-        Op::Store(a, p, _) => push_two(reader, &a.value, &p.value, uses),
-        Op::Gep(_, a, indices) => {
-            push_use(reader, &a.value, uses)?;
-            push_all(reader, indices.as_slice(), uses)
-        }
         Op::Phi(_, _) => Ok(()),
-        Op::Call(_, _, args) => push_all(reader, args.as_slice(), uses),
+        _ => push_values(reader, op, uses),
     }
+}
+
+/// The uses of what an instruction reads.
+fn push_values(reader: Reader, op: &Op, uses: &mut Vec<Use>) -> Result<(), NoMemory>
+    ensures { OnOk result (uses.new.items ≡ uses.old.items ++ all.uses_in reader (op_values op.now)) }
+{
+    let mut at = 0;
+    while let Some(value) = op.operand(at) {
+        push_use(reader, value, uses)?;
+        at += 1;
+    }
+    Ok(())
 }
 
 /// The uses of a phi: each entry's value is read at the end of the entry's block.
@@ -145,42 +142,12 @@ fn push_entry_uses(
 fn push_end_uses(reader: Reader, end: &End, uses: &mut Vec<Use>) -> Result<(), NoMemory>
     ensures { OnOk result (uses.new.items ≡ uses.old.items ++ all.uses_in reader (end_values end.now)) }
 {
-    match end {
-        End::Ret(None) => Ok(()),
-        End::Ret(Some(a)) => push_use(reader, &a.value, uses),
-        End::Br(_) => Ok(()),
-        End::Cond(c, _, _) => push_use(reader, &c.value, uses),
-        End::Switch(a, _, cases) => {
-            push_use(reader, &a.value, uses)?;
-            push_cases(reader, cases.as_slice(), uses)
-        }
-        End::Unreachable => Ok(()),
-    }
-}
-
-fn push_cases(reader: Reader, cases: &[SwitchCase], uses: &mut Vec<Use>) -> Result<(), NoMemory>
-    ensures { OnOk result (uses.new.items ≡ uses.old.items ++ all.uses_in reader (map (λ (c : case_of.SwitchCase). c.value.value) cases.now)) }
-{
-    for case in cases {
-        push_use(reader, &case.value.value, uses)?;
+    let mut at = 0;
+    while let Some(value) = end.operand(at) {
+        push_use(reader, value, uses)?;
+        at += 1;
     }
     Ok(())
-}
-
-fn push_all(reader: Reader, values: &[TypedOperand], uses: &mut Vec<Use>) -> Result<(), NoMemory>
-    ensures { OnOk result (uses.new.items ≡ uses.old.items ++ all.uses_in reader (values_of values.now)) }
-{
-    for value in values {
-        push_use(reader, &value.value, uses)?;
-    }
-    Ok(())
-}
-
-fn push_two(reader: Reader, a: &Operand, b: &Operand, uses: &mut Vec<Use>) -> Result<(), NoMemory>
-    ensures { OnOk result (uses.new.items ≡ uses.old.items ++ all.uses_of reader a.now ++ all.uses_of reader b.now) }
-{
-    push_use(reader, a, uses)?;
-    push_use(reader, b, uses)
 }
 
 fn push_use(reader: Reader, value: &Operand, uses: &mut Vec<Use>) -> Result<(), NoMemory>

@@ -10,7 +10,7 @@ use Rattle.ir_core.specs.declared.layout.Layout.{Layout}
 use Rattle.ir_core.specs.declared.ty.TypeName.{TypeName}
 use Rattle.ir_core.specs.declared.ty.TypeDef.{TypeDef}
 use Rattle.ir_core.specs.declared.ty.IrType.{IrType, Void, Int, Ptr, Array', Struct', Named, Row_of-IrType, end_of-IrType, more_of-IrType}
-use Rattle.ir_core.specs.Sizes.{array_of, empty, behind, rounded, placed, layout_by, field_layouts, definition, name_layout, layout, IsLaid}
+use Rattle.ir_core.specs.Sizes.{array_of, empty, after, rounded, placed, layout_by, field_layouts, definition, name_layout, layout, IsLaid}
 use Rattle.ir_core.specs.Parts.{names_in_type, names_in_types}
 use Rattle.ir_core.specs.Acyclic.{HasNoVoid, HaveNoVoid, Holds, Leads, HoldsItself, IsAcyclic}
 use Rattle.ir_core.proofs.Counts.{count, count_same, count_wider, count_all}
@@ -23,7 +23,7 @@ mapped k (Some l) e = refl
 
 placed_some : (b : Layout) (o : Option Layout) (os : List (Option Layout)) → IsSome o → ((c : Layout) → IsSome (placed c os)) → IsSome (placed b (o ∷ os))
 placed_some b None os e h = cc
-placed_some b (Some l) os e h = h (behind b l)
+placed_some b (Some l) os e h = h (after b l)
 
 -- where each name in a type has a layout, so has the type
 mutual
@@ -125,7 +125,7 @@ in_one x y c = by_place c.0 c.1 c.2
 
 first_placed : (b : Layout) (o : Option Layout) (os : List (Option Layout)) → IsSome (placed b (o ∷ os)) → IsSome o × ((c : Layout) × IsSome (placed c os))
 first_placed b None os e = cc
-first_placed b (Some l) os e = (refl, (behind b l, e))
+first_placed b (Some l) os e = (refl, (after b l, e))
 
 -- where a type has a layout, no `void` stands in it, and each name in it has one
 mutual

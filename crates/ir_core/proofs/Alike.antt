@@ -112,27 +112,27 @@ coming_at k p i e =
     let n : suc p ≡ p + 1 = omega arith in
     ap (filter_map written_by) (drop_at k.code p i e) ∙ ap (λ n. cons_option (written_by i) (filter_map written_by (drop n k.code))) n
 
-each_behind : (P : ℕ → Type 0) (o : Option ℕ) (xs : List ℕ) → Each P (cons_option o xs) → Each P xs
-each_behind P None xs e = e
-each_behind P (Some x) xs e = e.1
+each_after : (P : ℕ → Type 0) (o : Option ℕ) (xs : List ℕ) → Each P (cons_option o xs) → Each P xs
+each_after P None xs e = e
+each_after P (Some x) xs e = e.1
 
-apart_behind : (o : Option ℕ) (xs : List ℕ) → Apart (cons_option o xs) → Apart xs
-apart_behind None xs a = a
-apart_behind (Some x) xs a = a.1
+apart_after : (o : Option ℕ) (xs : List ℕ) → Apart (cons_option o xs) → Apart xs
+apart_after None xs a = a
+apart_after (Some x) xs a = a.1
 
 apart_drop : (xs : List FlatInstr) (p : ℕ) → Apart (filter_map written_by xs) → Apart (filter_map written_by (drop p xs))
 apart_drop xs zero a = a
 apart_drop [] (suc p) a = a
-apart_drop (x ∷ xs) (suc p) a = apart_drop xs p (apart_behind (written_by x) (filter_map written_by xs) a)
+apart_drop (x ∷ xs) (suc p) a = apart_drop xs p (apart_after (written_by x) (filter_map written_by xs) a)
 
--- behind an instruction, what held of all that was to come
+-- after an instruction, what held of all that was to come
 pub unwritten_next : (m : Module) (g : Func) (f x p : ℕ) (k : FlatBlock) (i : FlatInstr) (Is : ℕ → Type 0) → block_at m f x ≡ Some k → slice_get k.code p ≡ Some i → Unwritten m g f x p Is → Unwritten m g f x (p + 1) Is
 unwritten_next m g f x p k i Is at here u entry l found =
     let same : l ≡ k = same_block found at in
     let all : Each Is (cons_option (written_by i) (coming k (p + 1))) = subst (Each Is) (coming_at k p i here) (u entry k at) in
-    subst (λ z. Each Is (coming z (p + 1))) (sym same) (each_behind Is (written_by i) (coming k (p + 1)) all)
+    subst (λ z. Each Is (coming z (p + 1))) (sym same) (each_after Is (written_by i) (coming k (p + 1)) all)
 
--- the register of an instruction is none of those that come behind it
+-- the register of an instruction is none of those that come after it
 pub not_again : (m : Module) → Sound m → (g : Func) (f x p : ℕ) (k : FlatBlock) (i : FlatInstr) (d : ℕ) → IsAt m f x g k → slice_get k.code p ≡ Some i → written_by i ≡ Some d → Unwritten m g f x (p + 1) (λ e. d ≢ e)
 not_again m sound g f x p k i d at here w entry l found =
     let same : l ≡ k = same_block found at.block in

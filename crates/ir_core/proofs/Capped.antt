@@ -5,7 +5,7 @@ use Rattle.std.specs.Option.{option_map}
 use Rattle.std.specs.Int.{next_multiple_of}
 use Rattle.ir_core.specs.declared.layout.Layout.{Layout}
 use Rattle.ir_core.specs.Capped.{capped}
-use Rattle.ir_core.specs.Sizes.{array_of, behind, rounded, placed}
+use Rattle.ir_core.specs.Sizes.{array_of, after, rounded, placed}
 
 -- numbers that are one where they are capped are one, or both have the limit or more
 near : (a b : ℕ) → min a 16777217 ≡ min b 16777217 → (a ≡ b) ⊎ ((16777217 ≤ a) × (16777217 ≤ b))
@@ -34,11 +34,11 @@ aligns a b e = ap Layout.align e
 alike : (a b : Layout) → min a.size 16777217 ≡ min b.size 16777217 → a.align ≡ b.align → capped a ≡ capped b
 alike a b p q i = record { size = p i; align = q i }
 
-pub capped-behind : (a b l : Layout) → capped a ≡ capped b → capped (behind a l) ≡ capped (behind b l)
-capped-behind a b l e = alike (behind a l) (behind b l) (above a.size b.size (behind a l).size (behind b l).size (sizes a b e) (omega arith) (omega arith) (λ (same : a.size ≡ b.size). ap (λ (z : ℕ). next_multiple_of z l.align + l.size) same)) (ap (λ (z : ℕ). max z l.align) (aligns a b e))
+pub capped-after : (a b l : Layout) → capped a ≡ capped b → capped (after a l) ≡ capped (after b l)
+capped-after a b l e = alike (after a l) (after b l) (above a.size b.size (after a l).size (after b l).size (sizes a b e) (omega arith) (omega arith) (λ (same : a.size ≡ b.size). ap (λ (z : ℕ). next_multiple_of z l.align + l.size) same)) (ap (λ (z : ℕ). max z l.align) (aligns a b e))
 
-pub capped-behind_capped : (b l : Layout) → capped (behind b (capped l)) ≡ capped (behind b l)
-capped-behind_capped b l = alike (behind b (capped l)) (behind b l) (omega arith) refl
+pub capped-after_capped : (b l : Layout) → capped (after b (capped l)) ≡ capped (after b l)
+capped-after_capped b l = alike (after b (capped l)) (after b l) (omega arith) refl
 
 pub capped-rounded : (a b : Layout) → capped a ≡ capped b → capped (rounded a) ≡ capped (rounded b)
 capped-rounded a b e = alike (rounded a) (rounded b) (above a.size b.size (rounded a).size (rounded b).size (sizes a b e) (omega arith) (omega arith) (λ (same : a.size ≡ b.size). rw (same, aligns a b e))) (aligns a b e)
@@ -50,4 +50,4 @@ capped-array_of (suc n) l = alike (array_of (suc n) (capped l)) (array_of (suc n
 pub capped-placed : (a b : Layout) (ls : List (Option Layout)) → capped a ≡ capped b → option_map capped (placed a ls) ≡ option_map capped (placed b ls)
 capped-placed a b [] e = ap Some e
 capped-placed a b (None ∷ ls) e = refl
-capped-placed a b (Some l ∷ ls) e = capped-placed (behind a l) (behind b l) ls (capped-behind a b l e)
+capped-placed a b (Some l ∷ ls) e = capped-placed (after a l) (after b l) ls (capped-after a b l e)

@@ -28,7 +28,7 @@ module _ (table : List Name) (defs : List TypeDef) (x at : ℕ) (d : TypeDef) (p
   step : (n m : ℕ) → n ≡ suc m → resolved n defs (named x) ≡ resolved m defs d.ty
   step n m e = resolved_some n m defs (named x) d (defined_at table defs x at d positions here there) e
 
-  -- a definition behind which none comes
+  -- a definition after which none comes
   pub last_definition : option_and_then (definition defs) (name_of d.ty) ≡ None → EndsAt defs x at 1
   last_definition none = record {
     end = d;

@@ -1,4 +1,4 @@
--- Where a struct's fields stand, and that the way through type names keeps a type's layout.
+-- Where a struct's fields stand, and that looking through type names keeps a type's layout.
 use Rattle.std.proofs.Common.{◌≡◌, ℕ, ◌<◌, ◌≤◌, min, zero, suc, List, [], ◌∷◌, length, take, map, Option, Some, None, refl, sym, ap, ◌∙◌, subst, arith}
 use Rattle.std.specs.Prelude.{IsSome, unwrap_or}
 use Rattle.std.specs.List.{slice_get}
@@ -16,7 +16,7 @@ use Rattle.ir_core.specs.declared.ty.IrType.TheVariants.{rolls-Struct}
 use Rattle.ir_core.specs.declared.ty.IrType.TheOpen.{IrType-F}
 use Rattle.ir_core.specs.declared.ty.IrType.TheViews.{out-IrType, out-roll-IrType}
 use Rattle.ir_core.specs.Capped.{capped}
-use Rattle.ir_core.specs.Sizes.{empty, offset_behind, behind, rounded, placed, layout_by, definition, name_layout, layout, IsLaid, size, name_of, resolved, types_in, struct_types, offset_from, fields, offset}
+use Rattle.ir_core.specs.Sizes.{empty, offset_after, after, rounded, placed, layout_by, definition, name_layout, layout, IsLaid, size, name_of, resolved, types_in, struct_types, offset_from, fields, offset}
 use Rattle.ir_core.specs.Known.{Knows, Describes}
 use Rattle.ir_core.proofs.Layouts.{at_struct}
 use Rattle.ir_core.proofs.Names.{within_type, deeper}
@@ -63,7 +63,7 @@ resolved_layout (suc n) defs t l e = by_name (option_and_then (definition defs) 
 grows : (c r : Layout) (ls : List (Option Layout)) → placed c ls ≡ Some r → c.size ≤ r.size
 grows c r [] e = let same : c ≡ r = cc in let s = ap Layout.size same in omega arith
 grows c r (None ∷ ls) e = cc
-grows c r (Some f ∷ ls) e = let more = grows (behind c f) r ls e in omega arith
+grows c r (Some f ∷ ls) e = let more = grows (after c f) r ls e in omega arith
 
 -- a struct cut at a field
 record Cut (c : Layout) (ls : List (Option Layout)) (i : ℕ) (r : Layout) : Type 0 where
@@ -71,8 +71,8 @@ record Cut (c : Layout) (ls : List (Option Layout)) (i : ℕ) (r : Layout) : Typ
   pub field : Layout
   pub placed_before : placed c (take i ls) ≡ Some before
   pub there : slice_get ls i ≡ Some (Some field)
-  pub offset_there : offset_from c ls i ≡ Some (offset_behind before field)
-  pub within : offset_behind before field ≤ r.size
+  pub offset_there : offset_from c ls i ≡ Some (offset_after before field)
+  pub within : offset_after before field ≤ r.size
 
 cut : (c r : Layout) (ls : List (Option Layout)) (i : ℕ) → placed c ls ≡ Some r → i < length ls → Cut c ls i r
 cut c r [] i e h = absurd (omega arith)
@@ -83,10 +83,10 @@ cut c r (Some f ∷ ls) zero e h = record {
   placed_before = refl;
   there = refl;
   offset_there = refl;
-  within = let more = grows (behind c f) r ls e in omega arith;
+  within = let more = grows (after c f) r ls e in omega arith;
 }
 cut c r (Some f ∷ ls) (suc i) e h =
-    let k = cut (behind c f) r ls i e (omega arith) in
+    let k = cut (after c f) r ls i e (omega arith) in
     record { before = k.before; field = k.field; placed_before = k.placed_before; there = k.there; offset_there = k.offset_there; within = k.within }
 
 -- where a struct has a layout, its fields' layouts give it
@@ -127,7 +127,7 @@ module _ (table : List Name) (defs : List TypeDef) (t : IrType) (ts : List IrTyp
       let fits : k.before.size ≤ 16777216 = omega arith in
       let exact : min k.before.size 16777217 ≡ k.before.size = omega arith in
       let same : min (next_multiple_of (capped k.before).size k.field.align) 16777217 ≡ min (next_multiple_of k.before.size k.field.align) 16777217 = ap (λ (z : ℕ). min (next_multiple_of z k.field.align) 16777217) exact in
-      let all : min (next_multiple_of k.before.size k.field.align) 16777217 ≡ offset_behind k.before k.field = omega arith in
+      let all : min (next_multiple_of k.before.size k.field.align) 16777217 ≡ offset_after k.before k.field = omega arith in
       k.offset_there ∙ ap Some (sym (gives ∙ same ∙ all))
 
   pub offset_is : offset defs t i ≡ Some result

@@ -1,4 +1,4 @@
--- Each step of the way through a type gives the capped layout of what was gone through.
+-- Each step through a type gives the capped layout of what was gone through.
 use Rattle.std.proofs.Common.{◌≡◌, ℕ, min, List, ◌∷◌, map, Option, Some, None, refl, sym, ap, ◌∙◌, arith}
 use Rattle.std.specs.Option.{option_map}
 use Rattle.ir_core.specs.declared.layout.Layout.{Layout}
@@ -7,8 +7,8 @@ use Rattle.ir_core.specs.declared.ty.IrType.{IrType, Row_of-IrType, end_of-IrTyp
 use Rattle.ir_core.specs.declared.ty.IrType.TheBlock.{hidden-the_row-IrType-1}
 use Rattle.ir_core.specs.declared.ty.IrType.TheVariants as types
 use Rattle.ir_core.specs.Capped.{capped}
-use Rattle.ir_core.specs.Sizes.{array_of, empty, behind, rounded, placed, layout_by, field_layouts}
-use Rattle.ir_core.proofs.Capped.{capped-behind_capped, capped-rounded, capped-array_of, capped-placed}
+use Rattle.ir_core.specs.Sizes.{array_of, empty, after, rounded, placed, layout_by, field_layouts}
+use Rattle.ir_core.proofs.Capped.{capped-after_capped, capped-rounded, capped-array_of, capped-placed}
 
 pub at_array : (names : TypeName → Option Layout) (n : ℕ) (item : IrType) → layout_by names (types.Array n item) ≡ option_map (array_of n) (layout_by names item)
 unfolding Rattle.ir_core.specs.declared.ty.IrType.TheBlock.hidden-the_row-IrType-0 denote.Hole.Carrier.hidden
@@ -54,9 +54,9 @@ pub struct_some : (names : TypeName → Option Layout) (fields : List IrType) (t
 struct_some names fields t l w is e k = one_layout rounded (placed empty (map (layout_by names) fields)) l w capped-rounded e k ∙ ap (option_map capped) (sym (ap (layout_by names) is ∙ at_struct names fields))
 
 -- one field more
-pub field_placed : (o : Option Layout) (rest : List (Option Layout)) (before l next : Layout) → Some l ≡ option_map capped o → next ≡ capped (behind before l) → option_map capped (placed next rest) ≡ option_map capped (placed before (o ∷ rest))
+pub field_placed : (o : Option Layout) (rest : List (Option Layout)) (before l next : Layout) → Some l ≡ option_map capped o → next ≡ capped (after before l) → option_map capped (placed next rest) ≡ option_map capped (placed before (o ∷ rest))
 field_placed None rest before l next e k = cc
 field_placed (Some x) rest before l next e k =
     let same : l ≡ capped x = cc in
-    let one : next ≡ capped (behind before x) = k ∙ ap (λ (z : Layout). capped (behind before z)) same ∙ capped-behind_capped before x in
-    capped-placed next (behind before x) rest (ap capped one ∙ capped_twice (behind before x))
+    let one : next ≡ capped (after before x) = k ∙ ap (λ (z : Layout). capped (after before z)) same ∙ capped-after_capped before x in
+    capped-placed next (after before x) rest (ap capped one ∙ capped_twice (after before x))

@@ -1,4 +1,5 @@
 pub mod AcyclicLemmas
+pub mod ByPosition
 pub mod Capped
 pub mod Chained
 pub mod Counts
@@ -8,6 +9,7 @@ pub mod Layouts
 pub mod Measured
 pub mod Names
 pub mod Outputs
+pub mod Searched
 pub mod RowExamples
 pub mod RuleExamples
 pub mod TypeRuleExamples

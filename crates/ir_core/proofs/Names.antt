@@ -10,7 +10,7 @@ use Rattle.ir_core.specs.declared.layout.Layout.{Layout}
 use Rattle.ir_core.specs.declared.ty.TypeName.{TypeName}
 use Rattle.ir_core.specs.declared.ty.TypeDef.{TypeDef}
 use Rattle.ir_core.specs.declared.ty.IrType.{IrType, Void, Int, Ptr, Array', Struct', Named, Row_of-IrType, end_of-IrType, more_of-IrType}
-use Rattle.ir_core.specs.Sizes.{array_of, empty, behind, rounded, placed, layout_by, field_layouts, is_named, definition, name_layout}
+use Rattle.ir_core.specs.Sizes.{array_of, empty, after, rounded, placed, layout_by, field_layouts, is_named, definition, name_layout}
 
 -- each layout that f gives is the one that g gives
 pub record Within (f g : TypeName → Option Layout) : Type 0 where
@@ -22,7 +22,7 @@ within_map k (Some m) p l h e = ap (option_map k) (h m refl) ∙ e
 
 within_placed : (b : Layout) (o p : Option Layout) (os ps : List (Option Layout)) (l : Layout) → ((m : Layout) → o ≡ Some m → p ≡ Some m) → ((c m : Layout) → placed c os ≡ Some m → placed c ps ≡ Some m) → placed b (o ∷ os) ≡ Some l → placed b (p ∷ ps) ≡ Some l
 within_placed b None p os ps l h k e = cc
-within_placed b (Some m) p os ps l h k e = ap (λ (q : Option Layout). placed b (q ∷ ps)) (h m refl) ∙ k (behind b m) l e
+within_placed b (Some m) p os ps l h k e = ap (λ (q : Option Layout). placed b (q ∷ ps)) (h m refl) ∙ k (after b m) l e
 
 mutual
   pub within_type : (f g : TypeName → Option Layout) → Within f g → (t : IrType) (l : Layout) → layout_by f t ≡ Some l → layout_by g t ≡ Some l

@@ -10,7 +10,7 @@ use Rattle.ir_core.specs.declared.flat.FlatInstr.TheVariants as instr
 use Rattle.ir_core.specs.declared.flat.FlatEnd.TheVariants as ends
 use Rattle.ir_core.specs.declared.flat.FlatBody.{FlatBody}
 use Rattle.ir_core.specs.Words.{Known, NoWord, NoMeaning, word_op, word_cast}
-use Rattle.ir_core.specs.Memory.{Bits, At, Nowhere, Poisoned, Unset, Octet, PartOf, loaded, load, fresh}
+use Rattle.ir_core.specs.Memory.{Bits, At, NullPointer, Poisoned, Unset, Octet, PartOf, loaded, load, fresh}
 use Rattle.ir_core.specs.Rows.{Gives, NoGood, bin, icmp, moved, scaled}
 use Rattle.oi_base.specs.Follows.{Going, Ended}
 use Rattle.ir_core.specs.Flat.{Program, flat_step, flat_run}
@@ -55,7 +55,7 @@ little_endian = refl
 no_bit : loaded (Word W1) (Octet 2 ∷ []) ≡ Poisoned
 no_bit = refl
 
-zeros_are_null : loaded Pointer (Octet 0 ∷ Octet 0 ∷ Octet 0 ∷ Octet 0 ∷ []) ≡ Nowhere
+zeros_are_null : loaded Pointer (Octet 0 ∷ Octet 0 ∷ Octet 0 ∷ Octet 0 ∷ []) ≡ NullPointer
 zeros_are_null = refl
 
 unset_is_poison : loaded Pointer (Octet 0 ∷ Octet 0 ∷ Octet 0 ∷ Unset ∷ []) ≡ Poisoned
@@ -67,10 +67,10 @@ parts_in_order = refl
 parts_of_a_word : loaded (Word W32) (PartOf 3 8 0 ∷ PartOf 3 8 1 ∷ PartOf 3 8 2 ∷ PartOf 3 8 3 ∷ []) ≡ Poisoned
 parts_of_a_word = refl
 
-null_round_about : moved Nowhere 4294967296 ≡ Gives Nowhere
+null_round_about : moved NullPointer 4294967296 ≡ Gives NullPointer
 null_round_about = refl
 
-null_moved : moved Nowhere 4 ≡ Gives Poisoned
+null_moved : moved NullPointer 4 ≡ Gives Poisoned
 null_moved = refl
 
 back_by_four : moved (At 0 4) (scaled W8 4 255) ≡ Gives (At 0 0)
@@ -79,7 +79,7 @@ back_by_four = refl
 are_apart : icmp (fresh 4 4 ∷ fresh 4 4 ∷ []) Eq Pointer (At 0 0) (At 1 0) ≡ Gives (Bits 0)
 are_apart = refl
 
--- one behind its block may be the other block's start
+-- one after its block may be the other block's start
 end_and_start : icmp (fresh 4 4 ∷ fresh 4 4 ∷ []) Ne Pointer (At 0 4) (At 1 0) ≡ Gives Poisoned
 end_and_start = refl
 

@@ -40,7 +40,7 @@ of_funcs fs = record {
   triple = None;
 }
 
--- a block that ends at column 3 of the line behind its label
+-- a block that ends at column 3 of the line after its label
 abbrev pub block : ℕ → ℕ → End → Block
 block line label end = record { place = at line 1; label = name label; code = []; end = end; end_place = at (line + 1) 3 }
 

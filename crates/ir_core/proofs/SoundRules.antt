@@ -25,7 +25,7 @@ use Rattle.ir_core.specs.declared.func.Block.{Block}
 use Rattle.ir_core.specs.declared.func.Func.{Func}
 use Rattle.ir_core.specs.declared.func.Param.{Param}
 use Rattle.ir_core.specs.Parts.{is_defined, targets}
-use Rattle.ir_core.specs.Stands.{symbol_text}
+use Rattle.ir_core.specs.Operands.{symbol_text}
 use Rattle.ir_core.specs.Formed as formed
 use Rattle.ir_core.specs.Formed.{written_by, of_result}
 use Rattle.ir_core.specs.Instructions.{register, first, func_number, instruction, phi, call, external_call, switch_case, terminator, block_rows}

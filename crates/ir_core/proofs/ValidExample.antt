@@ -15,7 +15,7 @@ use Rattle.ir_core.specs.declared.func.Block.{Block}
 use Rattle.ir_core.specs.declared.func.Func.{Func}
 use Rattle.ir_core.specs.Parts.{names_in_type, targets, end_values, operand_locals}
 use Rattle.ir_core.specs.Acyclic.{HasNoVoid}
-use Rattle.ir_core.specs.Stands.{Step, Ends, operands_of, AtStep, AtInstr}
+use Rattle.ir_core.specs.Operands.{Step, Ends, operands_of, AtStep, AtInstr}
 use Rattle.ir_core.specs.Valid.{IsValid, IsValidFunc}
 use Rattle.ir_core.specs.ValidModule.{BreaksMain, BreaksSymbolTwice, BreaksTotals, BreaksTarget, Introduced, name_bytes, IsWrong, IsLayout, IsTriple}
 use Rattle.ir_core.specs.ValidTypes.{BreaksTypeNames, BreaksSizes, BreaksAlignments, MakesTooMuch, PromisesWell, TypeUse, type_uses, step_sized, OneIsTooLarge}

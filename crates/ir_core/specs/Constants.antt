@@ -19,7 +19,7 @@ use Rattle.ir_core.specs.declared.constant.Const.{Const, Row_of-TypedConst, end_
 use Rattle.ir_core.specs.declared.constant.Const as consts
 use Rattle.ir_core.specs.declared.constant.TypedCount.{TypedCount}
 use Rattle.ir_core.specs.Sizes.{size, align, resolved, fields, offset}
-use Rattle.ir_core.specs.Memory.{Value, Bits, At, Nowhere, Poisoned, Byte, Unset, PoisonByte, Octet, Block, Memory, stored}
+use Rattle.ir_core.specs.Memory.{Value, Bits, At, NullPointer, Poisoned, Byte, Unset, PoisonByte, Octet, Block, Memory, stored}
 use Rattle.ir_core.specs.Words.{bit}
 use Rattle.ir_core.specs.Rows.{scaled}
 
@@ -54,8 +54,8 @@ pub record Path : Type 0 where
 abbrev pub joined : Path → Path → Path
 joined a b = record { bytes = a.bytes + b.bytes; terms = a.terms ++ b.terms }
 
-abbrev pub nowhere_else : Path
-nowhere_else = record { bytes = 0; terms = [] }
+abbrev pub empty_path : Path
+empty_path = record { bytes = 0; terms = [] }
 
 -- an index over things of one size
 abbrev pub over : ℕ → Index → Path
@@ -92,12 +92,12 @@ abbrev pub element_of : List TypeDef → IrType → Option IrType
 element_of defs t = element (resolved (length defs) defs t)
 
 abbrev pub walk : List TypeDef → IrType → List Index → Path
-walk defs t [] = nowhere_else
+walk defs t [] = empty_path
 walk defs t (i ∷ is) = joined (into defs t (element_of defs t) i) (walk defs (inside defs t (element_of defs t) i) is)
 
 -- the first index is over things of the source type, and the further ones walk into it
 abbrev pub path : List TypeDef → IrType → List Index → Path
-path defs t [] = nowhere_else
+path defs t [] = empty_path
 path defs t (i ∷ is) = joined (over (size defs t) i) (walk defs t is)
 
 -- where the operands of all terms are words
@@ -147,7 +147,7 @@ constant m t _ = Poison
 abbrev pub constant_value : FlatOp → Value
 constant_value (Reg r) = Poisoned
 constant_value (Word a) = Bits a
-constant_value Null = Nowhere
+constant_value Null = NullPointer
 constant_value (Address g k) = At g k
 constant_value Poison = Poisoned
 
@@ -159,7 +159,7 @@ abbrev pub filled_up : ℕ → List Byte → List Byte
 filled_up n bs = bs ++ gap (n - length bs)
 
 -- The bytes of an initialiser of a type. Elements follow one another; a struct's fields stand at their offsets, and the
--- bytes between and behind them are unset. `undef` is read as zero.
+-- bytes between and after them are unset. `undef` is read as zero.
 abbrev mutual
   pub initial_bytes : Module → IrType → Const → List Byte
   initial_bytes m t consts.Zero = replicate (size m.types.defs t) (Octet 0)
@@ -174,7 +174,7 @@ abbrev mutual
   element_bytes m end_of-TypedConst = []
   element_bytes m (more_of-TypedConst t c cs) = initial_bytes m t c ++ element_bytes m cs
 
-  -- the fields behind those that end at a place
+  -- the fields after those that end at a place
   pub field_bytes : Module → ℕ → {n : _} → Row_of-TypedConst n → List Byte
   field_bytes m at end_of-TypedConst = []
   field_bytes m at (more_of-TypedConst t c cs) =

@@ -4,7 +4,13 @@ use Rattle.std.specs.Prelude.{◌≡◌, ◌⊎◌, ℕ, ◌<◌, IsTrue, Some, 
 use Rattle.oi_base.specs.declared.ids.Place.{Place}
 use Rattle.ir_core.specs.declared.module.Module.{Module}
 use Rattle.ir_core.specs.declared.func.Func.{Func}
-use Rattle.ir_core.specs.Stands.{is_up_to}
+use Rattle.ir_core.specs.declared.rule.ModuleRule.{ModuleRule}
+use Rattle.ir_core.specs.declared.rule.ModuleRule.TheVariants.{Main, SymbolTwice, TypeNames, Sizes, Initialisers, Totals, Alignments, Target}
+use Rattle.ir_core.specs.declared.rule.FuncRule.{FuncRule}
+use Rattle.ir_core.specs.declared.rule.FuncRule.TheVariants.{Names, References, Positions, Entry, Types, Constants, Calls, Phis, Cases, Assignment}
+use Rattle.ir_core.specs.declared.rule.Rule.{Rule}
+use Rattle.ir_core.specs.declared.rule.Rule.TheVariants as rules
+use Rattle.ir_core.specs.Operands.{is_up_to}
 use Rattle.ir_core.specs.ValidModule.{BreaksMain, BreaksSymbolTwice, BreaksTotals, BreaksTarget}
 use Rattle.ir_core.specs.ValidTypes.{BreaksTypeNames, BreaksSizes, BreaksAlignments}
 use Rattle.ir_core.specs.ValidConsts.{BreaksInitialisers}
@@ -12,28 +18,6 @@ use Rattle.ir_core.specs.ValidFunc.{BreaksNames, BreaksReferences, BreaksPositio
 use Rattle.ir_core.specs.ValidOps.{BreaksTypes, BreaksConstants, BreaksCalls, BreaksCases}
 use Rattle.ir_core.specs.ValidPaths.{BreaksPhis, BreaksAssignment}
 use Rattle.ir_core.specs.Valid.{IsValidFunc}
-
-pub data ModuleRule : Type 0 where
-  Main : ModuleRule
-  SymbolTwice : ModuleRule
-  TypeNames : ModuleRule
-  Sizes : ModuleRule
-  Initialisers : ModuleRule
-  Totals : ModuleRule
-  Alignments : ModuleRule
-  Target : ModuleRule
-
-pub data FuncRule : Type 0 where
-  Names : FuncRule
-  References : FuncRule
-  Positions : FuncRule
-  Entry : FuncRule
-  Types : FuncRule
-  Constants : FuncRule
-  Calls : FuncRule
-  Phis : FuncRule
-  Cases : FuncRule
-  Assignment : FuncRule
 
 abbrev pub module_rule : ModuleRule → ℕ
 module_rule Main = 1
@@ -56,6 +40,10 @@ func_rule Calls = 15
 func_rule Phis = 16
 func_rule Cases = 17
 func_rule Assignment = 18
+
+abbrev pub rule_number : Rule → ℕ
+rule_number (rules.Module r) = module_rule r
+rule_number (rules.Func r) = func_rule r
 
 abbrev pub BreaksModule : Module → ModuleRule → Place → Type 0
 BreaksModule m Main p = BreaksMain m p

@@ -17,7 +17,7 @@ use Rattle.ir_core.specs.declared.flat.FlatBody.{FlatBody}
 use Rattle.std.specs.Fn.{iterate}
 use Rattle.oi_base.specs.Follows.{Status, Going, Ended, Undefined, Stuck, Seen}
 use Rattle.oi_base.specs.Words.{modulus}
-use Rattle.ir_core.specs.Memory.{Value, Bits, At, Nowhere, Poisoned, Memory, load, store, fresh, kill, kill_all}
+use Rattle.ir_core.specs.Memory.{Value, Bits, At, NullPointer, Poisoned, Memory, load, store, fresh, kill, kill_all}
 use Rattle.ir_core.specs.Rows.{Answer, Gives, NoGood, Mistyped, Read, Is, IsPoison, IsOther, as_word, bin, icmp, choose, cast_read, scaled, moved, is_of}
 
 -- a program: its globals, which are the first blocks of memory, and its functions' bodies
@@ -52,7 +52,7 @@ with_reg f r v q = if nat_eq q r then Some v else f q
 abbrev pub value_of : (ℕ → Option Value) → FlatOp → Option Value
 value_of regs (Reg r) = regs r.0
 value_of regs (Word a) = Some (Bits a)
-value_of regs Null = Some Nowhere
+value_of regs Null = Some NullPointer
 value_of regs (Address g k) = Some (At g k)
 value_of regs Poison = Some Poisoned
 
@@ -212,7 +212,7 @@ abbrev pub entry_value : (ℕ → Option Value) → Option FlatOp → Option Val
 entry_value regs None = None
 entry_value regs (Some o) = value_of regs o
 
--- a phi's register with its value, beside those of the phis behind it
+-- a phi's register with its value, beside those of the phis after it
 abbrev pub with_phi : ℕ → Option Value → Option (ℕ → Option Value) → Option (ℕ → Option Value)
 with_phi r None rest = None
 with_phi r (Some v) None = None

@@ -3,6 +3,7 @@ use Rattle.std.specs.Prelude.{◌≡◌, ◌≢◌, ◌⊎◌, ℕ, ◌<◌, ◌
 use Rattle.std.specs.List.{flat_map, filter_map}
 use Rattle.oi_base.specs.declared.words.Width.{Width}
 use Rattle.oi_base.specs.declared.words.Width.TheVariants.{W1, W32}
+use Rattle.ir_core.specs.declared.limits.TheConstants.{MOST_PARAMS}
 use Rattle.ir_core.specs.declared.flat.Scalar.{Scalar}
 use Rattle.ir_core.specs.declared.flat.Scalar.TheVariants as scalar
 use Rattle.ir_core.specs.declared.flat.CastOp.{CastOp}
@@ -33,20 +34,24 @@ of_result None = None
 of_result (Some r) = Some r.0
 
 -- the register that an instruction writes
+abbrev pub result_of : FlatInstr → Option RegId
+result_of (Bin d op w a b) = Some d
+result_of (Icmp d c s a b) = Some d
+result_of (Select d c a b) = Some d
+result_of (Cast d c from to a) = Some d
+result_of (Copy d a) = Some d
+result_of (Alloca d size align) = Some d
+result_of (Load d s align a) = Some d
+result_of (Store s align v a) = None
+result_of (Gep d a k ts) = Some d
+result_of (Call d f args) = d
+result_of (Put d a) = d
+result_of (Get d) = d
+result_of (Exit a) = None
+
+-- its number
 abbrev pub written_by : FlatInstr → Option ℕ
-written_by (Bin d op w a b) = Some d.0
-written_by (Icmp d c s a b) = Some d.0
-written_by (Select d c a b) = Some d.0
-written_by (Cast d c from to a) = Some d.0
-written_by (Copy d a) = Some d.0
-written_by (Alloca d size align) = Some d.0
-written_by (Load d s align a) = Some d.0
-written_by (Store s align v a) = None
-written_by (Gep d a k ts) = Some d.0
-written_by (Call d f args) = of_result d
-written_by (Put d a) = of_result d
-written_by (Get d) = of_result d
-written_by (Exit a) = None
+written_by i = of_result (result_of i)
 
 abbrev pub used_by : FlatInstr → List FlatOp
 used_by (Bin d op w a b) = a ∷ b ∷ []
@@ -155,7 +160,7 @@ IsTyped types funcs (Alloca d size align) = (types d.0 ≡ scalar.Pointer) × Is
 IsTyped types funcs (Load d s align a) = (types d.0 ≡ s) × HasType types a scalar.Pointer × IsAlign align × (scalar_size s ≤ align)
 IsTyped types funcs (Store s align v a) = HasType types v s × HasType types a scalar.Pointer × IsAlign align × (scalar_size s ≤ align)
 IsTyped types funcs (Gep d a k ts) = (types d.0 ≡ scalar.Pointer) × HasType types a scalar.Pointer × (k < 4294967296) × All (λ t. HasType types t.operand (scalar.Word t.width) × (t.stride < 4294967296)) ts
-IsTyped types funcs (Call d f args) = AllTyped types args (funcs f.0).params × (length args ≤ 8) × Receives types d (funcs f.0).result
+IsTyped types funcs (Call d f args) = AllTyped types args (funcs f.0).params × (length args ≤ MOST_PARAMS) × Receives types d (funcs f.0).result
 IsTyped types funcs (Put d a) = HasType types a (scalar.Word W32) × Receives types d (Some (scalar.Word W32))
 IsTyped types funcs (Get d) = Receives types d (Some (scalar.Word W32))
 IsTyped types funcs (Exit a) = HasType types a (scalar.Word W32)
@@ -211,7 +216,7 @@ NamesGlobal globals o = Unit {0}
 pub record IsFormedBody (types : ℕ → Scalar) (funcs : ℕ → FuncType) (own : FuncType) (body : FlatBody) : Type 0 where
   pub entry : (k : FlatBlock) × IsBlock body 0 k × (k.phis ≡ [])
   pub no_way_back : (a : ℕ) → IsEdge body a 0 → ⊥
-  pub few_params : (body.params ≤ 8) × (body.params ≤ body.regs)
+  pub few_params : (body.params ≤ MOST_PARAMS) × (body.params ≤ body.regs)
   pub numbers : (body.regs < 4294967296) × (length body.blocks < 4294967296)
   pub own_params : (length own.params ≡ body.params) × ((q : ℕ) (s : Scalar) → slice_get own.params q ≡ Some s → types q ≡ s)
   pub in_range : (b c : ℕ) → IsEdge body b c → c < length body.blocks

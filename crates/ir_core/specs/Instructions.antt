@@ -34,7 +34,7 @@ use Rattle.ir_core.specs.declared.func.Block.{Block}
 use Rattle.ir_core.specs.declared.func.Func.{Func}
 use Rattle.ir_core.specs.Sizes.{size}
 use Rattle.ir_core.specs.Parts.{is_defined}
-use Rattle.ir_core.specs.Stands.{symbol_text}
+use Rattle.ir_core.specs.Operands.{symbol_text}
 use Rattle.ir_core.specs.Constants.{width_of, scalar_of, aligned_as, Index, Path, path, field_number, constant}
 
 -- ---- operands

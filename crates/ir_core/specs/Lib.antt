@@ -8,6 +8,7 @@ pub mod Formed
 pub mod Instructions
 pub mod Known
 pub mod Memory
+pub mod Opcodes
 pub mod Parts
 pub mod Places
 pub mod Plain
@@ -16,7 +17,8 @@ pub mod Rows
 pub mod Sizes
 pub mod Source
 pub mod SourceExamples
-pub mod Stands
+pub mod Operands
+pub mod Types
 pub mod Valid
 pub mod ValidConsts
 pub mod ValidFunc

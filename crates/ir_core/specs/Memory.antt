@@ -10,7 +10,7 @@ use Rattle.oi_base.specs.Words.{modulus}
 pub data Value : Type 0 where
   Bits : (word : ℕ) → Value
   At : (block offset : ℕ) → Value
-  Nowhere : Value
+  NullPointer : Value
   Poisoned : Value
 
 -- a byte of memory: nothing yet, poison, a number, or one of the four parts of a pointer
@@ -56,7 +56,7 @@ number (b ∷ bs) = None
 abbrev pub stored : Scalar → Value → List Byte
 stored s (Bits a) = octets (scalar_size s) a
 stored s (At b o) = PartOf b o 0 ∷ PartOf b o 1 ∷ PartOf b o 2 ∷ PartOf b o 3 ∷ []
-stored s Nowhere = octets (scalar_size s) 0
+stored s NullPointer = octets (scalar_size s) 0
 stored s Poisoned = replicate (scalar_size s) PoisonByte
 
 -- these bytes are the pointer's parts from part k on, in order
@@ -72,7 +72,7 @@ bits_below m (Some a) = if nat_lt a m then Bits a else Poisoned
 
 abbrev pub null_or_poison : Option ℕ → Value
 null_or_poison None = Poisoned
-null_or_poison (Some zero) = Nowhere
+null_or_poison (Some zero) = NullPointer
 null_or_poison (Some (suc a)) = Poisoned
 
 abbrev pub pointer_of : List Byte → Value

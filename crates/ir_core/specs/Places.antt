@@ -10,26 +10,26 @@ use Rattle.ir_core.specs.declared.module.Declaration.{Declaration}
 use Rattle.ir_core.specs.declared.module.Module as modules
 
 -- the place that stands for none
-abbrev pub nowhere : Place
-nowhere = record { line = 0; column = 0 }
+abbrev pub no_place : Place
+no_place = record { line = 0; column = 0 }
 
 abbrev pub unplaced_instr : Instr → Instr
-unplaced_instr i = record i { place = nowhere }
+unplaced_instr i = record i { place = no_place }
 
 abbrev pub unplaced_block : Block → Block
-unplaced_block b = record b { place = nowhere; code = map unplaced_instr b.code; end_place = nowhere }
+unplaced_block b = record b { place = no_place; code = map unplaced_instr b.code; end_place = no_place }
 
 abbrev pub unplaced_func : Func → Func
-unplaced_func f = record f { place = nowhere; blocks = map unplaced_block f.blocks }
+unplaced_func f = record f { place = no_place; blocks = map unplaced_block f.blocks }
 
 abbrev pub unplaced_type : TypeDef → TypeDef
-unplaced_type d = record d { place = nowhere }
+unplaced_type d = record d { place = no_place }
 
 abbrev pub unplaced_global : GlobalVar → GlobalVar
-unplaced_global g = record g { place = nowhere }
+unplaced_global g = record g { place = no_place }
 
 abbrev pub unplaced_declaration : Declaration → Declaration
-unplaced_declaration d = record d { place = nowhere }
+unplaced_declaration d = record d { place = no_place }
 
 abbrev pub unplaced : modules.Module → modules.Module
 unplaced m = record m {

@@ -1,5 +1,6 @@
 -- Modules that are proper: what every module that was read from a text is.
 use Rattle.std.specs.Prelude.{◌≢◌, ℕ, ◌<◌, ◌≤◌, ℤ, pos, negsuc, List, [], length, All, AllPairs, Some, IsSome, IsNone, ⊤}
+use Rattle.ir_core.specs.declared.limits.TheConstants.{MOST_FUNCTIONS, MOST_LENGTH, MOST_PARAMS, MOST_SITES}
 use Rattle.ir_core.specs.declared.ty.TypeName.{TypeName}
 use Rattle.ir_core.specs.declared.ty.IrType.{IrType, Void}
 use Rattle.ir_core.specs.declared.module.SymId.{SymId}
@@ -39,11 +40,11 @@ HasEntries (Phi t es) = 0 < length es
 HasEntries _ = ⊤
 
 abbrev pub HasFewArguments : Op → Type 0
-HasFewArguments (Call t f as') = length as' ≤ 8
+HasFewArguments (Call t f as') = length as' ≤ MOST_PARAMS
 HasFewArguments _ = ⊤
 
 abbrev pub IsCount : ℤ → Type 0
-IsCount (pos n) = n ≤ 4294967295
+IsCount (pos n) = n ≤ MOST_LENGTH
 IsCount (negsuc n) = ⊥
 
 abbrev pub HasItsCount : Op → Type 0
@@ -65,7 +66,7 @@ pub record IsProperFunc (f : Func) : Type 0 where
   pub results : All HasItsResult (instrs f)
   pub locals_known : All (λ (x : LocalId). x.0 < length f.locals) (func_locals f)
   pub locals_once : AllDiffer f.locals
-  pub params : length f.params ≤ 8
+  pub params : length f.params ≤ MOST_PARAMS
   pub arguments : All (λ (i : Instr). HasFewArguments i.op) (instrs f)
   pub counts : All (λ (i : Instr). HasItsCount i.op) (instrs f)
 
@@ -76,5 +77,5 @@ pub record IsProper (m : Module) : Type 0 where
   pub symbols_once : AllDiffer m.symbols
   pub type_names_once : AllDiffer m.types.names
   pub symbols : All IsSymbol m.symbols
-  pub funcs : length m.funcs ≤ 4096
-  pub site_count : length (sites m) ≤ 4096
+  pub funcs : length m.funcs ≤ MOST_FUNCTIONS
+  pub site_count : length (sites m) ≤ MOST_SITES

@@ -11,7 +11,7 @@ use Rattle.ir_core.specs.declared.flat.Cmp.TheVariants.{Eq, Ne}
 use Rattle.ir_core.specs.declared.flat.CastOp.{CastOp}
 use Rattle.oi_base.specs.Words.{modulus, signed_of, word_of}
 use Rattle.ir_core.specs.Words.{Outcome, Known, NoWord, NoMeaning, word_op, divides, word_test, word_cast, bit}
-use Rattle.ir_core.specs.Memory.{Value, Bits, At, Nowhere, Poisoned, Block, Memory}
+use Rattle.ir_core.specs.Memory.{Value, Bits, At, NullPointer, Poisoned, Block, Memory}
 
 -- what a row gives: a value, nothing because it is undefined, or nothing because an operand is of another type
 pub data Answer : Type 0 where
@@ -29,7 +29,7 @@ abbrev pub as_word : ℕ → Value → Read
 as_word m (Bits a) = if nat_lt a m then Is a else IsOther
 as_word m Poisoned = IsPoison
 as_word m (At b o) = IsOther
-as_word m Nowhere = IsOther
+as_word m NullPointer = IsOther
 
 abbrev pub outcome : Outcome → Answer
 outcome (Known a) = Gives (Bits a)
@@ -81,9 +81,9 @@ abbrev pub same_pointer : Memory → Value → Value → Option Bool
 same_pointer m (At b o) (At c q) =
     if nat_eq b c then (if is_live (slice_get m b) then Some (nat_eq o q) else None)
     else (if is_inside (slice_get m b) o && is_inside (slice_get m c) q then Some false else None)
-same_pointer m Nowhere Nowhere = Some true
-same_pointer m (At b o) Nowhere = if is_inside (slice_get m b) o then Some false else None
-same_pointer m Nowhere (At b o) = if is_inside (slice_get m b) o then Some false else None
+same_pointer m NullPointer NullPointer = Some true
+same_pointer m (At b o) NullPointer = if is_inside (slice_get m b) o then Some false else None
+same_pointer m NullPointer (At b o) = if is_inside (slice_get m b) o then Some false else None
 same_pointer m _ _ = None
 
 -- the offsets of two pointers into one live block, both along it
@@ -132,7 +132,7 @@ scaled w stride a = (word_of 4294967296 (signed_of (modulus w) a) * stride) % 42
 -- a pointer moved by a distance, modulo 2 to the 32; null stays null where it is not moved
 abbrev pub moved : Value → ℕ → Answer
 moved (At b o) d = Gives (At b ((o + d) % 4294967296))
-moved Nowhere d = if nat_eq (d % 4294967296) 0 then Gives Nowhere else Gives Poisoned
+moved NullPointer d = if nat_eq (d % 4294967296) 0 then Gives NullPointer else Gives Poisoned
 moved Poisoned d = Gives Poisoned
 moved (Bits a) d = Mistyped
 
@@ -140,9 +140,9 @@ moved (Bits a) d = Mistyped
 abbrev pub is_of : Scalar → Value → Bool
 is_of (Word w) (Bits a) = nat_lt a (modulus w)
 is_of (Word w) (At b o) = false
-is_of (Word w) Nowhere = false
+is_of (Word w) NullPointer = false
 is_of (Word w) Poisoned = true
 is_of Pointer (Bits a) = false
 is_of Pointer (At b o) = true
-is_of Pointer Nowhere = true
+is_of Pointer NullPointer = true
 is_of Pointer Poisoned = true

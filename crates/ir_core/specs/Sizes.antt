@@ -30,22 +30,22 @@ abbrev pub empty : Layout
 empty = record { size = 0; align = 1 }
 
 -- a field stands at the next multiple of its alignment
-abbrev pub offset_behind : Layout → Layout → ℕ
-offset_behind before field = next_multiple_of before.size field.align
+abbrev pub offset_after : Layout → Layout → ℕ
+offset_after before field = next_multiple_of before.size field.align
 
 -- what a struct takes with one field more, but for the padding at its end
-abbrev pub behind : Layout → Layout → Layout
-behind before field = record { size = offset_behind before field + field.size; align = max before.align field.align }
+abbrev pub after : Layout → Layout → Layout
+after before field = record { size = offset_after before field + field.size; align = max before.align field.align }
 
 -- a struct's size is rounded up to its greatest alignment
 abbrev pub rounded : Layout → Layout
 rounded all = record { size = next_multiple_of all.size all.align; align = all.align }
 
--- fields one behind the other, where each has a layout
+-- fields one after the other, where each has a layout
 abbrev pub placed : Layout → List (Option Layout) → Option Layout
 placed before [] = Some before
 placed before (None ∷ fields) = None
-placed before (Some field ∷ fields) = placed (behind before field) fields
+placed before (Some field ∷ fields) = placed (after before field) fields
 
 -- a type's layout from those of the type names in it; `void` has none
 abbrev mutual
@@ -113,12 +113,12 @@ types_in (IrType-F.Named x) = []
 abbrev pub struct_types : IrType → List IrType
 struct_types t = types_in (out-IrType t)
 
--- where a field stands behind those before it
+-- where a field stands after those before it
 abbrev pub offset_from : Layout → List (Option Layout) → ℕ → Option ℕ
 offset_from before [] i = None
 offset_from before (None ∷ fields) i = None
-offset_from before (Some field ∷ fields) zero = Some (offset_behind before field)
-offset_from before (Some field ∷ fields) (suc i) = offset_from (behind before field) fields i
+offset_from before (Some field ∷ fields) zero = Some (offset_after before field)
+offset_from before (Some field ∷ fields) (suc i) = offset_from (after before field) fields i
 
 -- the fields of the struct that a type stands for
 abbrev pub fields : List TypeDef → IrType → List IrType

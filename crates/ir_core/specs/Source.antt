@@ -12,7 +12,7 @@ use Rattle.ir_core.specs.declared.func.Func.{Func}
 use Rattle.ir_core.specs.declared.func.Param.{Param}
 use Rattle.ir_core.specs.declared.module.Module.{Module}
 use Rattle.ir_core.specs.Memory.{Value, Bits}
-use Rattle.ir_core.specs.Stands.{symbol_text}
+use Rattle.ir_core.specs.Operands.{symbol_text}
 use Rattle.ir_core.specs.Flat.{Activation, Run, Effect, Sets, Allocates, Stores, Puts, Takes, Enters, Goes, Returns, Stops, NoMeaning, NoValue, ends, advanced, with_value, with_result, got, allocated, goes_into, returned, what_stands, seen}
 use Rattle.ir_core.specs.Instructions.{block_rows}
 use Rattle.ir_core.specs.Constants.{global_memory}
@@ -49,7 +49,7 @@ abbrev pub activated : ℕ → List (Option Value) → Option RegId → Func →
 activated f args waiting g =
     record { func = f; block = entry_label g; place = 0; regs = bound g.params args; made = []; waiting = waiting }
 
--- the caller goes on behind the call once the callee has returned
+-- the caller goes on after the call once the callee has returned
 abbrev pub called : Run → ℕ → List (Option Value) → Option RegId → Option Func → Run
 called r f args waiting None = ends r Stuck
 called r f args waiting (Some g) =

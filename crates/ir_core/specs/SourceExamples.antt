@@ -122,7 +122,7 @@ EndsWith m n w = Stands m [] n (Ended w) []
 -- the instructions are carried out, and then the return of what they gave is undefined
 pub record IsPoison (m : Module) (n : ℕ) : Type 0 where
   pub before : Stands m [] n Going []
-  pub behind : Stands m [] (n + 1) Undefined []
+  pub after : Stands m [] (n + 1) Undefined []
 
 -- a comparison of pointers, returned as a word
 abbrev pub tested : List Instr → Op → Module

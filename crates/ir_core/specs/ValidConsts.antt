@@ -21,7 +21,7 @@ use Rattle.ir_core.specs.declared.op.TypedOperand.{TypedOperand}
 use Rattle.ir_core.specs.Sizes.{resolved, fields, size, offset}
 use Rattle.ir_core.specs.Words.{bit}
 use Rattle.ir_core.specs.Rows.{scaled}
-use Rattle.ir_core.specs.Stands.{AtGlobal}
+use Rattle.ir_core.specs.Operands.{AtGlobal}
 
 -- a type without the names that stand for it
 abbrev pub plain : List TypeDef → IrType → IrType
@@ -65,7 +65,7 @@ GoesInto defs t i u =
     ((n : ℕ) × (out-IrType (plain defs t) ≡ IrType-F.Array n u))
     ⊎ ((k : ℕ) × (i.ty ≡ Int W32) × (i.number ≡ Some (pos k)) × (slice_get (fields defs t) k ≡ Some u))
 
--- the indices behind the first
+-- the indices after the first
 abbrev pub Walk : List TypeDef → IrType → List Index → Type 0
 Walk defs t [] = Unit {0}
 Walk defs t (i ∷ is) = IsInteger i.ty × ((u : IrType) × GoesInto defs t i u × Walk defs u is)
@@ -143,7 +143,7 @@ distance_by defs t i on (IrType-F.Struct types) =
     unwrap_or (offset defs t (field_number i.count)) 0 + on (unwrap_or (slice_get types (field_number i.count)) Void)
 distance_by defs t i on _ = 0
 
--- how far the indices behind the first lead into a type
+-- how far the indices after the first lead into a type
 abbrev pub distance_into : List TypeDef → IrType → List TypedCount → ℕ
 distance_into defs t [] = 0
 distance_into defs t (i ∷ is) = distance_by defs t i (λ u. distance_into defs u is) (out-IrType (plain defs t))

@@ -16,7 +16,7 @@ use Rattle.ir_core.specs.declared.func.Func.{Func}
 use Rattle.ir_core.specs.declared.func.Param.{Param}
 use Rattle.ir_core.specs.Parts.{instrs, targets, const_symbols}
 use Rattle.ir_core.specs.ValidConsts.{IsVariable}
-use Rattle.ir_core.specs.Stands.{Step, operands_of, labels_of, AtStep, AtEnd}
+use Rattle.ir_core.specs.Operands.{Step, operands_of, labels_of, AtStep, AtEnd}
 
 -- ---- names
 

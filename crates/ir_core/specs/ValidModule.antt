@@ -3,6 +3,7 @@ use Rattle.std.specs.Prelude.{◌≡◌, ◌≢◌, ◌⊎◌, ℕ, ◌+◌, ◌
 use Rattle.std.specs.Int.{next_multiple_of}
 use Rattle.oi_base.specs.declared.ids.Place.{Place}
 use Rattle.oi_base.specs.declared.words.Width.TheVariants.{W32}
+use Rattle.ir_core.specs.declared.limits.TheConstants.{MOST_DATA, MOST_NAME_BYTES, NAME_EXTRA}
 use Rattle.ir_core.specs.declared.ty.TypeDef.{TypeDef}
 use Rattle.ir_core.specs.declared.ty.IrType.{Int}
 use Rattle.ir_core.specs.declared.module.SymId.{SymId}
@@ -11,7 +12,7 @@ use Rattle.ir_core.specs.declared.module.Declaration.{Declaration}
 use Rattle.ir_core.specs.declared.module.Module.{Module}
 use Rattle.ir_core.specs.declared.func.Func.{Func}
 use Rattle.ir_core.specs.Sizes.{size, align}
-use Rattle.ir_core.specs.Stands.{start, is_up_to, symbol_text}
+use Rattle.ir_core.specs.Operands.{start, is_up_to, symbol_text}
 
 -- ---- main
 
@@ -55,13 +56,13 @@ global_align defs g = stated g.align
     stated None = align defs g.ty
     stated (Some a) = max a 1
 
--- where the data end once these globals stand one behind the other, each at the next multiple of its alignment
+-- where the data end once these globals stand one after the other, each at the next multiple of its alignment
 abbrev pub data_end : List TypeDef → List GlobalVar → ℕ
 data_end defs globals = fold (λ (end : ℕ) (g : GlobalVar). next_multiple_of end (global_align defs g) + size defs g.ty) 0 globals
 
 -- a global with which the data are too large
 abbrev pub HasTooMuchData : Module → Place → Type 0
-HasTooMuchData m p = (i : ℕ) × (g : GlobalVar) × (slice_get m.globals i ≡ Some g) × (g.place ≡ p) × (1048576 < data_end m.types.defs (take (i + 1) m.globals))
+HasTooMuchData m p = (i : ℕ) × (g : GlobalVar) × (slice_get m.globals i ≡ Some g) × (g.place ≡ p) × (MOST_DATA < data_end m.types.defs (take (i + 1) m.globals))
 
 -- definitions and globals
 abbrev pub named : Module → List Introduced
@@ -69,11 +70,11 @@ named m = introduced_globals m ++ introduced_funcs m
 
 -- the bytes of the names up to a place, with 17 more for each
 abbrev pub name_bytes : Module → Place → ℕ
-name_bytes m p = sum_by (λ (a : Introduced). length (symbol_text m a.name) + 17) (filter (λ (a : Introduced). is_up_to a.place p) (named m))
+name_bytes m p = sum_by (λ (a : Introduced). length (symbol_text m a.name) + NAME_EXTRA) (filter (λ (a : Introduced). is_up_to a.place p) (named m))
 
 -- a definition or a global with which the names are too long
 abbrev pub HasTooManyNames : Module → Place → Type 0
-HasTooManyNames m p = (a : Introduced) × Contains (named m) a × (a.place ≡ p) × (67108864 < name_bytes m p)
+HasTooManyNames m p = (a : Introduced) × Contains (named m) a × (a.place ≡ p) × (MOST_NAME_BYTES < name_bytes m p)
 
 -- Rule 6. The data, in which an `align` of 0 counts as 1, have at most 1,048,576 bytes, and the names of all definitions
 -- and globals, with 17 bytes more for each, at most 67,108,864. It is broken at each with which a sum is greater.
@@ -82,15 +83,15 @@ BreaksTotals m p = HasTooMuchData m p ⊎ HasTooManyNames m p
 
 -- ---- the target
 
--- what stands before a part of a text whose parts stand between signs `-`, and what stands behind it
+-- what stands before a part of a text whose parts stand between signs `-`, and what stands after it
 abbrev pub EndsAPart : List ℕ → Type 0
 EndsAPart before = (before ≡ []) ⊎ ((more : List ℕ) × (before ≡ more ++ codes "-"))
 
 abbrev pub BeginsAPart : List ℕ → Type 0
-BeginsAPart behind = (behind ≡ []) ⊎ ((more : List ℕ) × (behind ≡ codes "-" ++ more))
+BeginsAPart after = (after ≡ []) ⊎ ((more : List ℕ) × (after ≡ codes "-" ++ more))
 
 abbrev pub HasPart : List ℕ → List ℕ → Type 0
-HasPart part text = (before behind : List ℕ) × (text ≡ before ++ part ++ behind) × EndsAPart before × BeginsAPart behind
+HasPart part text = (before after : List ℕ) × (text ≡ before ++ part ++ after) × EndsAPart before × BeginsAPart after
 
 abbrev pub IsLayout : List ℕ → Type 0
 IsLayout text = HasPart (codes "e") text × HasPart (codes "p:32:32") text

@@ -22,10 +22,12 @@ use Rattle.ir_core.specs.declared.op.End.TheVariants.{Ret, Br, Cond, Switch, Unr
 use Rattle.ir_core.specs.declared.func.Instr.{Instr}
 use Rattle.ir_core.specs.declared.func.Func.{Func}
 use Rattle.ir_core.specs.declared.func.Param.{Param}
+use Rattle.ir_core.specs.declared.parts.ResultType.{ResultType}
+use Rattle.ir_core.specs.declared.parts.ResultType.TheVariants as results
 use Rattle.ir_core.specs.Parts.{instrs, types_of}
 use Rattle.ir_core.specs.Formed.{is_cast}
 use Rattle.ir_core.specs.ValidConsts.{IsInteger, FitsType, WalkFrom, ConstWalk, IndicesFit, index_of, IsWord, meaning}
-use Rattle.ir_core.specs.Stands.{Step, Does, Ends, operands_of, symbol_text, AtStep, AtInstr, AtEnd}
+use Rattle.ir_core.specs.Operands.{Step, Does, Ends, operands_of, symbol_text, AtStep, AtInstr, AtEnd}
 
 -- ---- types
 
@@ -50,6 +52,13 @@ op_result (Store a p align) = Void
 op_result (Gep t a is) = Ptr
 op_result (Phi t es) = t
 op_result (Call t f as') = t
+
+-- the same, as code gives it
+abbrev pub type_of : ResultType → IrType
+type_of (results.Stated t) = t.now
+type_of results.Bit = Int W1
+type_of results.Pointer = Ptr
+type_of results.Void = Void
 
 -- a parameter or a register of the name has the type
 abbrev pub LocalHasType : Func → LocalId → IrType → Type 0

@@ -2,6 +2,7 @@
 use Rattle.std.specs.Prelude.{◌≡◌, ◌⊎◌, ℕ, ◌*◌, ◌<◌, ◌≤◌, Bool, true, false, pos, List, [], ◌∷◌, ◌++◌, length, map, Option, Some, None, slice_get, Contains}
 use Rattle.std.specs.List.{flat_map}
 use Rattle.oi_base.specs.declared.ids.Place.{Place}
+use Rattle.ir_core.specs.declared.limits.TheConstants.{LARGEST}
 use Rattle.ir_core.specs.declared.ty.TypeName.{TypeName}
 use Rattle.ir_core.specs.declared.ty.TypeDef.{TypeDef}
 use Rattle.ir_core.specs.declared.ty.IrType.{IrType, Void, Named, out-IrType}
@@ -21,7 +22,7 @@ use Rattle.ir_core.specs.Parts.{listed, names_in_type, types_of, op_types, end_t
 use Rattle.ir_core.specs.Sizes.{definition, resolved, size, align}
 use Rattle.ir_core.specs.Acyclic.{HasNoVoid, HoldsItself}
 use Rattle.ir_core.specs.Formed.{IsAlign}
-use Rattle.ir_core.specs.Stands.{Step, Does, Ends, steps, AtStep, AtInstr, AtGlobal}
+use Rattle.ir_core.specs.Operands.{Step, Does, Ends, steps, AtStep, AtInstr, AtGlobal}
 
 -- ---- the types that stand in a module, with their places
 
@@ -119,7 +120,7 @@ abbrev pub StandsIn : List TypeDef → IrType → IrType → Type 0
 StandsIn defs t u = (t ≡ u) ⊎ ((between : List IrType) × LeadsInto defs t between u)
 
 abbrev pub IsTooLarge : List TypeDef → IrType → Type 0
-IsTooLarge defs t = (u : IrType) × StandsIn defs t u × (16777216 < size defs u)
+IsTooLarge defs t = (u : IrType) × StandsIn defs t u × (LARGEST < size defs u)
 
 abbrev pub OneIsTooLarge : List TypeDef → List IrType → Type 0
 OneIsTooLarge defs ts = (t : IrType) × Contains ts t × IsTooLarge defs t
@@ -153,7 +154,7 @@ step_sized (Ends b) = sources_in_values (end_values b.end)
 abbrev pub MakesTooMuch : List TypeDef → Instr → Type 0
 MakesTooMuch defs i =
     (t : IrType) × (n : TypedCount) × (a : Option ℕ) × (k : ℕ) × (i.op ≡ Alloca t (Some n) a) × (n.count ≡ pos k)
-    × (16777216 < k * size defs t)
+    × (LARGEST < k * size defs t)
 
 -- Rule 4. Each global's type, alloca's type, alloca's size with its count, and source type of a `getelementptr` has a
 -- size of at most 16,777,216, and so has every type that stands inside one of these types, also through a type name.

@@ -11,7 +11,7 @@ use crate::ty::{IrType, TypeDef};
 use std::alloc::{AllocError, Global};
 
 /// What is known of the chain of definitions that begins at a type name, as `%a = type %b` and `%b = type i32`:
-/// nothing, that it was gone along, or the position of its last definition and how many names are on the way there.
+/// nothing, that it was gone along, or the position of its last definition and how many names lead there.
 #[derive(Clone, Copy, Debug)]
 pub(crate) enum Chain {
     Unseen,
@@ -46,7 +46,7 @@ fn unseen(alloc: Global, len: usize) -> Result<Vec<Chain>, AllocError>
     Ok(chains)
 }
 
-/// Goes along the chain of a name up to one that was seen, and puts the names on the way on the stack.
+/// Goes along the chain of a name up to one that was seen, and puts the names before it on the stack.
 fn go_along(
     defs: &[TypeDef],
     table: &[Name],
@@ -65,7 +65,7 @@ fn go_along(
             return Ok(());
         }
         way.push(x)?;
-        match behind(defs, table, x) {
+        match after(defs, table, x) {
             Some(next) => x = next,
             None => return Ok(()),
         }
@@ -87,8 +87,8 @@ fn see(chains: &mut Vec<Chain>, x: usize) -> bool
     }
 }
 
-/// The name behind a name in its chain.
-fn behind(defs: &[TypeDef], table: &[Name], x: usize) -> Option<usize>
+/// The name after a name in its chain.
+fn after(defs: &[TypeDef], table: &[Name], x: usize) -> Option<usize>
     requires positions { HasPositions table.now defs.now }
 {
     let def = defs.get(position(table, x)?)?;

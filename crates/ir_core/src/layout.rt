@@ -1,12 +1,10 @@
 ghost use Rattle.std.specs.Prelude.{◌≡◌, min};
 ghost use Rattle.std.specs.Int.{next_multiple_of};
-ghost use Rattle.ir_core.specs.Sizes.{natural, word_layout, array_of, empty, behind, rounded};
+ghost use Rattle.ir_core.specs.Sizes.{natural, word_layout, array_of, empty, after, rounded};
 ghost use Rattle.ir_core.specs.Capped.{capped};
 
+use crate::limits::TOO_LARGE;
 use oi_base::Width;
-
-/// The largest size that a type may have, in bytes.
-pub const LARGEST: u32 = 16_777_216;
 
 /// A size and an alignment in bytes. The size of what is larger than `LARGEST` stands as one more than it.
 #[derive(Clone, Copy, Debug, PartialEq, Eq)]
@@ -47,7 +45,7 @@ impl Layout {
 
     /// The fields so far and one more.
     pub(crate) fn then(self, field: Layout) -> Layout
-        ensures { result ≡ capped (behind self field) }
+        ensures { result ≡ capped (after self field) }
     {
         Layout {
             size: at_most(round_up(self.size, field.align) + u64::from(field.size)),
@@ -77,9 +75,9 @@ pub(crate) fn round_up(size: u32, align: u32) -> u64
 
 /// A size, or one more than the limit where it is beyond that.
 pub(crate) fn at_most(size: u64) -> u32
-    ensures { result ≡ min size 16777217 }
+    ensures { result ≡ min size TOO_LARGE }
 {
-    size.min(16_777_217) as u32
+    size.min(u64::from(TOO_LARGE)) as u32
 }
 
 /// What is known of a type name: nothing, the position of its definition, or that and its layout.

@@ -7,7 +7,8 @@ ghost use Rattle.ir_core.specs.Capped.{capped};
 ghost use Rattle.ir_core.specs.Sizes.{layout_by, placed, empty, IsLaid, size, align, fields, offset};
 ghost use Rattle.ir_core.specs.Known.{known, Knows};
 
-use crate::layout::{LARGEST, Layout, Name, at_most, round_up};
+use crate::layout::{Layout, Name, at_most, round_up};
+use crate::limits::{LARGEST, TOO_LARGE};
 use crate::module::Module;
 use crate::ty::{IrType, TypeName};
 use thiserror::Error;
@@ -20,8 +21,8 @@ pub struct TypeTooLarge;
 /// A type's size in bytes, with the padding at its end.
 pub fn size_of(m: &Module, t: &IrType) -> Result<u32, TypeTooLarge>
     requires laid { IsLaid m.now.types.defs t.now }
-    ensures fits { size m.now.types.defs t.now ≤ 16777216 → result ≡ Ok (size m.now.types.defs t.now) }
-    ensures too_large { 16777216 < size m.now.types.defs t.now → IsErr result }
+    ensures fits { size m.now.types.defs t.now ≤ LARGEST → result ≡ Ok (size m.now.types.defs t.now) }
+    ensures too_large { LARGEST < size m.now.types.defs t.now → IsErr result }
 {
     match layout_of(m.types.defs.table(), t) {
         Some(layout) if layout.size <= LARGEST => Ok(layout.size),
@@ -40,10 +41,10 @@ pub fn align_of(m: &Module, t: &IrType) -> u32
     }
 }
 
-/// How many bytes behind a struct's begin its field of this number, from 0, begins.
+/// How many bytes after a struct's begin its field of this number, from 0, begins.
 pub fn field_offset(m: &Module, t: &IrType, index: u32) -> u32
     requires laid { IsLaid m.now.types.defs t.now }
-    requires small { size m.now.types.defs t.now ≤ 16777216 }
+    requires small { size m.now.types.defs t.now ≤ LARGEST }
     requires field { index < length (fields m.now.types.defs t.now) }
     ensures { offset m.now.types.defs t.now index ≡ Some result }
 {
@@ -58,7 +59,7 @@ pub fn field_offset(m: &Module, t: &IrType, index: u32) -> u32
 /// Where the field of this number stands, and one more than the limit where it is beyond that.
 fn offset_of(table: &[Name], fields: &[IrType], index: usize) -> u32
     requires { index < length fields.now }
-    ensures { (names : TypeName → Option Layout) → Knows table.now names → (before field : Layout) (t : IrType) → placed empty (map (layout_by names) (take index fields.now)) ≡ Some before → slice_get fields.now index ≡ Some t → layout_by names t ≡ Some field → result ≡ min (next_multiple_of (capped before).size field.align) 16777217 }
+    ensures { (names : TypeName → Option Layout) → Knows table.now names → (before field : Layout) (t : IrType) → placed empty (map (layout_by names) (take index fields.now)) ≡ Some before → slice_get fields.now index ≡ Some t → layout_by names t ≡ Some field → result ≡ min (next_multiple_of (capped before).size field.align) TOO_LARGE }
 {
     match (
         fields_of(table, &fields[..index]),
@@ -84,7 +85,7 @@ pub(crate) fn layout_of(table: &[Name], t: &IrType) -> Option<Layout>
     }
 }
 
-/// What the fields take, one behind the other.
+/// What the fields take, one after the other.
 #[cycle(layouts)]
 fn fields_of(table: &[Name], fields: &[IrType]) -> Option<Layout>
     ensures { (names : TypeName → Option Layout) → Knows table.now names → result ≡ option_map capped (placed empty (map (layout_by names) fields.now)) }

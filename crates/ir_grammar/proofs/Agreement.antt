@@ -10,7 +10,7 @@ use Rattle.ir_grammar.specs.Pieces.{Piece, Is, Bad}
 use Rattle.ir_grammar.specs.Names.{Names}
 use Rattle.ir_grammar.specs.Sets.{Set, head_in}
 use Rattle.ir_grammar.specs.Forms.{Left, Why, Refused, Exceeds, Outcome, Form, and_then, act, ret, Verdict, Takes, Refuses, Over, token, judged, parse_token, ◌>>=◌, either, rounds, rounds_at, place_of, located}
-use Rattle.ir_grammar.specs.Tokens.{expect, sign, many, behind_comma, listed}
+use Rattle.ir_grammar.specs.Tokens.{expect, sign, many, after_comma, listed}
 use Rattle.ir_grammar.proofs.FormLaws.{Shape, Law, after, left, shrinks}
 use Rattle.ir_grammar.proofs.Rounds.{consumes}
 
@@ -122,7 +122,7 @@ agree_then {A = A} {B = B} {k = k} {f = f} {f2 = f2} {g = g} {g2 = g2} hf hg = r
     at l (Err d) o2 short (inl e) = inl (ap (λ q. and_then q (λ a m. (g2 a).parse m)) e)
     at l (Err d) o2 short (inr p) = inr (p.0, and_short k g g2 hg o2 (length d.at) p.1, p.2)
 
--- behind a form that takes a token
+-- after a form that takes a token
 pub agree_deeper : {A B : Type 0} {k : ℕ} {f : Form A} {z : Shape} {g g2 : A → Form B} → Law true f z → z.empty ≡ false → ((a : A) → Agree k (g a) (g2 a)) → Agree (suc k) (f >>= g) (f >>= g2)
 agree_deeper {A = A} {B = B} {k = k} {f = f} {z = z} {g = g} {g2 = g2} law some hg = record {
   shrinking = λ l. and_short k g g2 hg (f.parse l) (length l.tokens) (shrinks f z law l);
@@ -204,11 +204,11 @@ agree_located {A = A} {k = k} {f = f} {g = g} h = record { shrinking = λ l. sho
 
 -- ---- lists
 
-pub agree_behind_comma : {A : Type 0} {k : ℕ} {f g : Form A} → Agree k f g → Agree k (behind_comma f) (behind_comma g)
-agree_behind_comma h = agree_then (agree_expect (sign 44)) (λ (c : Unit). h)
+pub agree_after_comma : {A : Type 0} {k : ℕ} {f g : Form A} → Agree k f g → Agree k (after_comma f) (after_comma g)
+agree_after_comma h = agree_then (agree_expect (sign 44)) (λ (c : Unit). h)
 
 pub agree_many : {A : Type 0} {k : ℕ} (z : Set) {f g : Form A} → Agree k f g → (xs : List A) → Agree k (many z f xs) (many z g xs)
 agree_many {A = A} z h xs = agree_rounds (λ xs. z) (λ (xs : List A). agree_then h (λ (x : A). agree_ret (xs ++ x ∷ []))) (λ (xs : List A). agree_ret xs) xs
 
 pub agree_listed : {A : Type 0} {k : ℕ} (z : Set) {f g : Form A} → Agree k f g → Agree k (listed z f) (listed z g)
-agree_listed {A = A} z h = agree_either z (agree_then h (λ (a : A). agree_many (sign 44) (agree_behind_comma h) (a ∷ []))) (agree_ret [])
+agree_listed {A = A} z h = agree_either z (agree_then h (λ (a : A). agree_many (sign 44) (agree_after_comma h) (a ∷ []))) (agree_ret [])

@@ -22,11 +22,11 @@ use Rattle.ir_grammar.specs.Tokens.{Limits, sign, word, kind}
 use Rattle.ir_grammar.specs.Types.{type_set}
 use Rattle.ir_grammar.specs.Values.{gep_word}
 use Rattle.ir_grammar.specs.Operations.{line_set, other_line_set, Line, instr_at}
-use Rattle.ir_grammar.specs.Bodies.{void_word, Ended, ret_end, br_end, switch_case, switch_end, end_form, with_instr, code, finish, lines, labelled, unlabelled, block_of, grown, block, settled, begun, local_behind, gep_behind, plain_value_set, other_lines, other_unlabelled, other_block, behind_void, next_block, next_set, more_blocks, body}
+use Rattle.ir_grammar.specs.Bodies.{void_word, Ended, ret_end, br_end, switch_case, switch_end, end_form, with_instr, code, finish, lines, labelled, unlabelled, block_of, grown, block, settled, begun, local_after, gep_after, plain_value_set, other_lines, other_unlabelled, other_block, after_void, next_block, next_set, more_blocks, body}
 use Rattle.ir_grammar.proofs.LawsOfValues.{law_gep_flags}
 use Rattle.ir_grammar.proofs.LawsOfAttributes.{law_notes}
 use Rattle.ir_grammar.proofs.LawsOfOperations.{law_local_name}
-use Rattle.ir_grammar.proofs.LawsOfBodies.{law_label, law_void_end, law_unreachable, law_value_behind, law_label_name, law_last_blocks}
+use Rattle.ir_grammar.proofs.LawsOfBodies.{law_label, law_void_end, law_unreachable, law_value_after, law_label_name, law_last_blocks}
 use Rattle.ir_grammar.proofs.Agreement.{Agree, agree_same, agree_act, agree_ret, agree_expect, agree_then, agree_either, agree_rounds, agree_located, agree_many}
 use Rattle.ir_grammar.proofs.AgreementOfValues.{Wider, agree_value_type, agree_gep_rest, agree_value, agree_typed}
 use Rattle.ir_grammar.proofs.AgreementOfOperations.{agree_gep_op_rest, agree_op, agree_other_line, agree_instr}
@@ -87,21 +87,21 @@ agree_block : {k : ℕ} (l m : Limits) (bs : List Block) → Wider k l m → Agr
 unfolding block
 agree_block l m bs h = agree_then (agree_located (agree_either (kind kinds.Label) (agree_labelled l m h) (agree_unlabelled l m h))) (λ (x : Place × Lines). agree_ret (grown bs x.1.bare (block_of x.0 x.1)))
 
--- ---- behind `ret void`
+-- ---- after `ret void`
 
 agree_begun : {k : ℕ} (l m : Limits) (bs : List Block) (p : Place) (x : LocalId × (LocalId × Op)) → Wider k l m → Agree k (begun l bs p x) (begun m bs p x)
 agree_begun l m bs p x h = agree_then (agree_lines l m x.0 (record { place = p; result = Some x.1.0; op = x.1.1 } ∷ []) h) (λ (y : Lines). agree_ret (grown bs y.bare (block_of p y)))
 
-agree_local_behind : {k : ℕ} (l m : Limits) (bs : List Block) (b : Block) → Wider k l m → Agree k (local_behind l bs b) (local_behind m bs b)
-unfolding local_behind
-agree_local_behind l m bs b h =
+agree_local_after : {k : ℕ} (l m : Limits) (bs : List Block) (b : Block) → Wider k l m → Agree k (local_after l bs b) (local_after m bs b)
+unfolding local_after
+agree_local_after l m bs b h =
     agree_then (agree_located (agree_same law_local_name)) (λ (n : Place × List ℕ). agree_either (sign 61)
     (agree_then (agree_expect (sign 61)) (λ (e : Unit). agree_then (agree_act define_next) (λ (j : LocalId). agree_then (agree_act (define n.1)) (λ (r : LocalId). agree_then (agree_op l m h) (λ (o : Op). agree_begun l m (bs ++ b ∷ []) n.0 (j, (r, o)) h)))))
     (agree_then (agree_act (local n.1)) (λ (x : LocalId). agree_then (agree_same law_notes) (λ (e : Unit). agree_ret (settled bs b (operands.Local x))))))
 
-agree_gep_behind : {k : ℕ} (l m : Limits) (bs : List Block) (b : Block) → Wider k l m → Agree k (gep_behind l bs b) (gep_behind m bs b)
-unfolding gep_behind
-agree_gep_behind {k = k} l m bs b h =
+agree_gep_after : {k : ℕ} (l m : Limits) (bs : List Block) (b : Block) → Wider k l m → Agree k (gep_after l bs b) (gep_after m bs b)
+unfolding gep_after
+agree_gep_after {k = k} l m bs b h =
     agree_then (agree_located (agree_expect gep_word)) (λ (g : Place × Unit). agree_then (agree_same law_gep_flags) (λ (f : Unit). agree_either (sign 40)
     (agree_then (agree_gep_rest l.length m.length l.levels m.levels k h.lengths h.levels h.deep) (λ (c : Const). agree_then (agree_same law_notes) (λ (e : Unit). agree_ret (settled bs b (operands.Const c)))))
     (agree_then (agree_act define_next) (λ (j : LocalId). agree_then (agree_act define_next) (λ (r : LocalId). agree_then (agree_gep_op_rest l m h) (λ (o : Op). agree_begun l m (bs ++ b ∷ []) g.0 (j, (r, o)) h))))))
@@ -118,15 +118,15 @@ agree_other_block : {k : ℕ} (l m : Limits) (bs : List Block) → Wider k l m �
 unfolding other_block
 agree_other_block l m bs h = agree_then (agree_located (agree_either (kind kinds.Label) (agree_labelled l m h) (agree_other_unlabelled l m h))) (λ (x : Place × Lines). agree_ret (grown bs x.1.bare (block_of x.0 x.1)))
 
-agree_behind_void : {k : ℕ} (l m : Limits) (bs : List Block) (b : Block) → Wider k l m → Agree k (behind_void l bs b) (behind_void m bs b)
-unfolding behind_void
-agree_behind_void l m bs b h = agree_either (kind kinds.Local) (agree_local_behind l m bs b h) (agree_either gep_word (agree_gep_behind l m bs b h) (agree_either plain_value_set (agree_same (law_value_behind bs b)) (agree_other_block l m (bs ++ b ∷ []) h)))
+agree_after_void : {k : ℕ} (l m : Limits) (bs : List Block) (b : Block) → Wider k l m → Agree k (after_void l bs b) (after_void m bs b)
+unfolding after_void
+agree_after_void l m bs b h = agree_either (kind kinds.Local) (agree_local_after l m bs b h) (agree_either gep_word (agree_gep_after l m bs b h) (agree_either plain_value_set (agree_same (law_value_after bs b)) (agree_other_block l m (bs ++ b ∷ []) h)))
 
 -- ---- bodies
 
 agree_next_block : {k : ℕ} (l m : Limits) (bs : List Block) (o : Option Block) → Wider k l m → Agree k (next_block l bs o) (next_block m bs o)
 agree_next_block l m bs None h = agree_block l m bs h
-agree_next_block l m bs (Some b) h = agree_behind_void l m bs b h
+agree_next_block l m bs (Some b) h = agree_after_void l m bs b h
 
 agree_more_blocks : {k : ℕ} (l m : Limits) (p : Progress) → Wider k l m → Agree k (more_blocks l p) (more_blocks m p)
 unfolding more_blocks

@@ -25,7 +25,7 @@ use Rattle.ir_grammar.specs.Forms.{token}
 use Rattle.ir_grammar.specs.Tokens.{Limits, is_past, sign, word, kind}
 use Rattle.ir_grammar.specs.Attributes.{no_marks, attribute_set}
 use Rattle.ir_grammar.specs.Operations.{align_word}
-use Rattle.ir_grammar.specs.Entities.{source_word, target_word, attributes_word, type_def, global_end, global_var, param, define_if, define_of, define_word, without_groups, locals_so_far, forget_locals, definition, other_entity, entity, no_entities, added, behind_declaration, next_entity, next_set, text_form}
+use Rattle.ir_grammar.specs.Entities.{source_word, target_word, attributes_word, type_def, global_end, global_var, param, define_if, define_of, define_word, without_groups, locals_so_far, forget_locals, definition, other_entity, entity, no_entities, added, after_declaration, next_entity, next_set, text_form}
 use Rattle.ir_grammar.proofs.LawsOfValues.{law_global}
 use Rattle.ir_grammar.proofs.LawsOfAttributes.{law_note, law_attribute, law_attribute_list, law_attributes_and_notes}
 use Rattle.ir_grammar.proofs.LawsOfOperations.{law_local_name}
@@ -117,14 +117,14 @@ agree_entity : {k : ℕ} (l m : Limits) (count : ℕ) → Wider k l m → Agree 
 unfolding entity
 agree_entity l m count h = agree_either (kind kinds.Meta) (agree_same law_metadata) (agree_other_entity l m count h)
 
-agree_behind_declaration : {k : ℕ} (l m : Limits) (d : Draft) → Wider k l m → Agree k (behind_declaration l d) (behind_declaration m d)
-unfolding behind_declaration
-agree_behind_declaration l m d h =
+agree_after_declaration : {k : ℕ} (l m : Limits) (d : Draft) → Wider k l m → Agree k (after_declaration l d) (after_declaration m d)
+unfolding after_declaration
+agree_after_declaration l m d h =
     agree_either (kind kinds.Meta) (agree_same (law_note_or_metadata d)) (agree_either (attribute_set barred.Nothing) (agree_then (agree_same (law_attribute barred.Nothing)) (λ (a : Attribute). agree_ret d))
     (agree_then (agree_other_entity l m (length d.definitions) h) (λ (e : Entity). agree_ret (added d e))))
 
 agree_next_entity : {k : ℕ} (l m : Limits) (d : Draft) (b : Bool) → Wider k l m → Agree k (next_entity l d b) (next_entity m d b)
-agree_next_entity l m d true h = agree_behind_declaration l m d h
+agree_next_entity l m d true h = agree_after_declaration l m d h
 agree_next_entity l m d false h = agree_then (agree_entity l m (length d.definitions) h) (λ (e : Entity). agree_ret (added d e))
 
 pub agree_text : {k : ℕ} (l m : Limits) → Wider k l m → Agree k (text_form l) (text_form m)

@@ -115,9 +115,9 @@ agree_count_and_rest l m h =
 agree_alloca : {k : ℕ} (l m : Limits) → Wider k l m → Agree k (alloca l) (alloca m)
 unfolding alloca
 agree_alloca l m h =
-    let behind = agree_either (type_set true) (agree_count_and_rest l m h) (agree_then (agree_align_or_notes l m h) (λ (a : Option ℕ). agree_ret (None, a))) in
+    let after = agree_either (type_set true) (agree_count_and_rest l m h) (agree_then (agree_align_or_notes l m h) (λ (a : Option ℕ). agree_ret (None, a))) in
     agree_then (agree_expect alloca_word) (λ (u : Unit). agree_then (agree_type_form l m h) (λ (t : IrType).
-    agree_then (agree_either (sign 44) (agree_then (agree_expect (sign 44)) (λ (c : Unit). behind)) (agree_ret (None, None))) (λ (x : Option TypedCount × Option ℕ). agree_ret (ops.Alloca t x.0 x.1))))
+    agree_then (agree_either (sign 44) (agree_then (agree_expect (sign 44)) (λ (c : Unit). after)) (agree_ret (None, None))) (λ (x : Option TypedCount × Option ℕ). agree_ret (ops.Alloca t x.0 x.1))))
 
 agree_load : {k : ℕ} (l m : Limits) → Wider k l m → Agree k (load l) (load m)
 unfolding load

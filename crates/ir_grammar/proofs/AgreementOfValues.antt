@@ -30,7 +30,7 @@ use Rattle.ir_grammar.proofs.Rules.{or}
 use Rattle.ir_grammar.proofs.LawsOfTokens.{is_sign, law_int}
 use Rattle.ir_grammar.proofs.LawsOfTypes.{law_named, law_type}
 use Rattle.ir_grammar.proofs.LawsOfValues.{law_gep_flags, law_global, law_address, law_integer, law_const_word, law_local_value, law_zero, law_bytes, law_typed_init, law_array_init, law_struct_init, law_init_at}
-use Rattle.ir_grammar.proofs.Agreement.{Agrees, passed_here, Agree, Widens, agree_same, agree_ret, agree_less, agree_token, agree_one, agree_expect, agree_then, agree_deeper, agree_either, agree_behind_comma, agree_many, agree_listed}
+use Rattle.ir_grammar.proofs.Agreement.{Agrees, passed_here, Agree, Widens, agree_same, agree_ret, agree_less, agree_token, agree_one, agree_expect, agree_then, agree_deeper, agree_either, agree_after_comma, agree_many, agree_listed}
 
 -- a limit is at most another; it is exceeded only where k tokens are no more than one
 abbrev pub AtMost : ℕ → Option ℕ → Option ℕ → Type 0
@@ -109,9 +109,9 @@ either_way : {X : Type 0} (c : Bool) (x : X) → x ≡ (if c then x else x)
 either_way true x = refl
 either_way false x = refl
 
-behind_test : {X : Type 0} (c : Bool) (x y z : X) → c ≡ false → y ≡ z → (if c then x else y) ≡ (if c then x else z)
-behind_test true x y z e h = absurd cc
-behind_test false x y z e h = h
+after_test : {X : Type 0} (c : Bool) (x y z : X) → c ≡ false → y ≡ z → (if c then x else y) ≡ (if c then x else z)
+after_test true x y z e h = absurd cc
+after_test false x y z e h = h
 
 abbrev NoLevel : Bool → Option ℕ → Option ℕ → ℕ → ℕ → Names → List Piece → Type 0
 NoLevel void a b m k s ts = Agrees k (left s ts) ((type_in void a zero).parse (left s ts)) ((type_in void b (suc m)).parse (left s ts))
@@ -164,8 +164,8 @@ no_level void a b m k few s (Is t ∷ ts) = one t.place t.token
     one p (tokens.Global n) = inl (other p (tokens.Global n))
     one p (tokens.Str n) = inl (other p (tokens.Str n))
     one p (tokens.CStr n) = inl (other p (tokens.CStr n))
-    one p (tokens.Meta n) = inl (behind_test (has (kind kinds.Local) (tokens.Meta n)) (named.parse (left s (Is (record { token = tokens.Meta n; place = p }) ∷ ts))) _ _ (meta_local n) (other p (tokens.Meta n)))
-    one p (tokens.Hash n) = inl (behind_test (has (kind kinds.Local) (tokens.Hash n)) (named.parse (left s (Is (record { token = tokens.Hash n; place = p }) ∷ ts))) _ _ (hash_local n) (other p (tokens.Hash n)))
+    one p (tokens.Meta n) = inl (after_test (has (kind kinds.Local) (tokens.Meta n)) (named.parse (left s (Is (record { token = tokens.Meta n; place = p }) ∷ ts))) _ _ (meta_local n) (other p (tokens.Meta n)))
+    one p (tokens.Hash n) = inl (after_test (has (kind kinds.Local) (tokens.Hash n)) (named.parse (left s (Is (record { token = tokens.Hash n; place = p }) ∷ ts))) _ _ (hash_local n) (other p (tokens.Hash n)))
     one p tokens.End = inl (other p tokens.End)
 
 pub agree_type : (void : Bool) (a b : Option ℕ) (n m k : ℕ) → AtMost k a b → n ≤ m → k ≤ suc n → Agree k (type_in void a n) (type_in void b m)
@@ -196,7 +196,7 @@ pub agree_gep_rest : (a b : Option ℕ) (n m k : ℕ) → AtMost k a b → n ≤
 unfolding gep_rest
 agree_gep_rest a b n m k e less deep =
     agree_then (agree_expect (sign 40)) (λ (o : Unit). agree_then (agree_type true a b n m k e less deep) (λ (t : IrType). agree_then (agree_expect (sign 44)) (λ (c : Unit). agree_then (agree_expect (word (codes "ptr"))) (λ (p : Unit).
-    agree_then (agree_same law_global) (λ (g : SymId). agree_then (agree_many (sign 44) (agree_behind_comma (agree_index a b n m k e less deep)) []) (λ (is : List TypedCount). agree_then (agree_expect (sign 41)) (λ (d : Unit). agree_ret (consts.Gep t g is))))))))
+    agree_then (agree_same law_global) (λ (g : SymId). agree_then (agree_many (sign 44) (agree_after_comma (agree_index a b n m k e less deep)) []) (λ (is : List TypedCount). agree_then (agree_expect (sign 41)) (λ (d : Unit). agree_ret (consts.Gep t g is))))))))
 
 pub agree_gep : (a b : Option ℕ) (n m k : ℕ) → AtMost k a b → n ≤ m → k ≤ suc n → Agree k (gep a n) (gep b m)
 unfolding gep
@@ -226,17 +226,17 @@ agree_array_init h = agree_deeper (is_sign 91 refl) refl (λ (o : Unit). agree_t
 agree_struct_init : {k : ℕ} {f g : Form TypedConst} → Agree k f g → Agree (suc k) (struct_init f) (struct_init g)
 agree_struct_init h = agree_deeper (is_sign 123 refl) refl (λ (o : Unit). agree_then (agree_listed (type_set true) h) (λ (cs : List TypedConst). agree_then (agree_expect (sign 125)) (λ (c : Unit). agree_ret (consts.Struct cs))))
 
--- what stands behind the other choices of an initialiser with more levels
-abbrev Behind : Option ℕ → ℕ → Form Const
-Behind b m = either (sign 91) (array_init (typed_init (init_at b m) b m)) (either (sign 123) (struct_init (typed_init (init_at b m) b m)) (one_word const_words))
+-- what stands after the other choices of an initialiser with more levels
+abbrev After : Option ℕ → ℕ → Form Const
+After b m = either (sign 91) (array_init (typed_init (init_at b m) b m)) (either (sign 123) (struct_init (typed_init (init_at b m) b m)) (one_word const_words))
 
-behind_short : (b : Option ℕ) (m : ℕ) (l : Left) → length (after ((Behind b m).parse l)) ≤ length l.tokens
-behind_short b m l =
+after_short : (b : Option ℕ) (m : ℕ) (l : Left) → length (after ((After b m).parse l)) ≤ length l.tokens
+after_short b m l =
     let inner = law_typed_init {w = true} (init_at b m) b m (law_init_at b m) in
-    shrinks (Behind b m) _ (or (law_array_init (typed_init (init_at b m) b m) inner) (or (law_struct_init (typed_init (init_at b m) b m) inner) law_const_word refl refl) refl refl) l
+    shrinks (After b m) _ (or (law_array_init (typed_init (init_at b m) b m) inner) (or (law_struct_init (typed_init (init_at b m) b m) inner) law_const_word refl refl) refl refl) l
 
 abbrev NoConst : Option ℕ → ℕ → ℕ → Names → List Piece → Type 0
-NoConst b m k s ts = Agrees k (left s ts) ((token last_const_of).parse (left s ts)) ((Behind b m).parse (left s ts))
+NoConst b m k s ts = Agrees k (left s ts) ((token last_const_of).parse (left s ts)) ((After b m).parse (left s ts))
 
 no_const : (b : Option ℕ) (m k : ℕ) → k ≤ 1 → (s : Names) (ts : List Piece) → NoConst b m k s ts
 no_const b m k few s [] = inl refl
@@ -244,7 +244,7 @@ no_const b m k few s (Bad f ∷ ts) = inl refl
 no_const b m k few s (Is t ∷ ts) = one t.place t.token
   where
     opens : (c : ℕ) (p : Place) → (token last_const_of).parse (left s (Is (record { token = tokens.Sign c; place = p }) ∷ ts)) ≡ Err (record { at = Is (record { token = tokens.Sign c; place = p }) ∷ ts; why = Exceeds limits.Nesting }) → NoConst b m k s (Is (record { token = tokens.Sign c; place = p }) ∷ ts)
-    opens c p e = inr (passed_here k limits.Nesting (left s (Is (record { token = tokens.Sign c; place = p }) ∷ ts)) _ _ e (behind_short b m (left s (Is (record { token = tokens.Sign c; place = p }) ∷ ts))) (omega (arith, few)))
+    opens c p e = inr (passed_here k limits.Nesting (left s (Is (record { token = tokens.Sign c; place = p }) ∷ ts)) _ _ e (after_short b m (left s (Is (record { token = tokens.Sign c; place = p }) ∷ ts))) (omega (arith, few)))
 
     by_sign : (c : ℕ) (p : Place) (x y : Bool) → nat_eq c 91 ≡ x → nat_eq c 123 ≡ y → NoConst b m k s (Is (record { token = tokens.Sign c; place = p }) ∷ ts)
     by_sign c p true y e f = opens c p (rw e refl)
@@ -264,8 +264,8 @@ no_const b m k few s (Is t ∷ ts) = one t.place t.token
     one p (tokens.Hash n) = inl refl
     one p tokens.End = inl refl
 
-agree_last : (b : Option ℕ) (m k : ℕ) → k ≤ 1 → Agree k (token last_const_of) (Behind b m)
-agree_last b m k few = record { shrinking = λ l. behind_short b m l; agree = λ l. no_const b m k few l.names l.tokens }
+agree_last : (b : Option ℕ) (m k : ℕ) → k ≤ 1 → Agree k (token last_const_of) (After b m)
+agree_last b m k few = record { shrinking = λ l. after_short b m l; agree = λ l. no_const b m k few l.names l.tokens }
 
 agree_init_at : (a b : Option ℕ) (n m k : ℕ) → AtMost k a b → n ≤ m → k ≤ suc n → Agree k (init_at a n) (init_at b m)
 unfolding init_at

@@ -10,7 +10,7 @@ use Rattle.ir_lexer.specs.declared.table.Token.TheVariants as tokens
 use Rattle.ir_lexer.specs.declared.table.Spot.{Spot}
 use Rattle.ir_lexer.specs.Spellings.{Spells}
 use Rattle.ir_lexer.specs.Lexing.{Unread, whole, next_token, is_end}
-use Rattle.ir_lexer.proofs.Behind.{in_parts}
+use Rattle.ir_lexer.proofs.After.{in_parts}
 use Rattle.ir_core.specs.declared.module.Module as modules
 use Rattle.ir_grammar.specs.declared.kinds.Kind.TheVariants as kinds
 use Rattle.ir_grammar.specs.declared.parts.Draft.{Draft}
@@ -26,12 +26,12 @@ abbrev pub OneLast : List Piece → Type 0
 OneLast [] = ⊥
 OneLast (t ∷ ts) = ((is_last t ≡ true) × (ts ≡ [])) ⊎ ((is_last t ≡ false) × OneLast ts)
 
-pub nothing_behind_last : (v : List Piece) (e : Piece) (w : List Piece) → OneLast (v ++ e ∷ w) → is_last e ≡ true → w ≡ []
-nothing_behind_last [] e w (inl h) last = h.1
-nothing_behind_last [] e w (inr h) last = absurd (cc (h.0, last))
-nothing_behind_last (t ∷ []) e w (inl h) last = absurd cc
-nothing_behind_last (t ∷ q ∷ v) e w (inl h) last = absurd cc
-nothing_behind_last (t ∷ v) e w (inr h) last = nothing_behind_last v e w h.1 last
+pub nothing_after_last : (v : List Piece) (e : Piece) (w : List Piece) → OneLast (v ++ e ∷ w) → is_last e ≡ true → w ≡ []
+nothing_after_last [] e w (inl h) last = h.1
+nothing_after_last [] e w (inr h) last = absurd (cc (h.0, last))
+nothing_after_last (t ∷ []) e w (inl h) last = absurd cc
+nothing_after_last (t ∷ q ∷ v) e w (inl h) last = absurd cc
+nothing_after_last (t ∷ v) e w (inr h) last = nothing_after_last v e w h.1 last
 
 pub has_last : (ts : List Piece) → OneLast ts → (x : List Piece) × (e : Piece) × (ts ≡ x ++ e ∷ []) × (is_last e ≡ true)
 has_last [] h = absurd h
@@ -68,13 +68,13 @@ unfolding pieces_at
 one_last zero u h = absurd (omega arith)
 one_last (suc n) u h = at (λ v less. one_last n v less) (next_token u) refl
   where
-    behind : ((v : Unread) → length v.bytes < n → OneLast (pieces_at n v)) → (t : Token) (p : Place) (v : Unread) → next_token u ≡ Ok ((t, p), v) → (b : Bool) → is_end t ≡ b → OneLast (Is (record { token = t; place = p }) ∷ (if b then [] else pieces_at n v))
-    behind ih t p v e true end = inl (end, refl)
-    behind ih t p v e false more = let less = fewer u v t p e more in inr (more, ih v (omega arith))
+    after : ((v : Unread) → length v.bytes < n → OneLast (pieces_at n v)) → (t : Token) (p : Place) (v : Unread) → next_token u ≡ Ok ((t, p), v) → (b : Bool) → is_end t ≡ b → OneLast (Is (record { token = t; place = p }) ∷ (if b then [] else pieces_at n v))
+    after ih t p v e true end = inl (end, refl)
+    after ih t p v e false more = let less = fewer u v t p e more in inr (more, ih v (omega arith))
 
     at : ((v : Unread) → length v.bytes < n → OneLast (pieces_at n v)) → (o : Result ((Token × Place) × Unread) LexFault) → next_token u ≡ o → OneLast (then_more o (λ v. pieces_at n v))
     at ih (Err f) e = inl (refl, refl)
-    at ih (Ok t) e = behind ih t.0.0 t.0.1 t.1 e (is_end t.0.0) refl
+    at ih (Ok t) e = after ih t.0.0 t.0.1 t.1 e (is_end t.0.0) refl
 
 pub last_of_pieces : (bytes : List ℕ) → OneLast (pieces bytes)
 unfolding pieces_of

@@ -15,7 +15,7 @@ use Rattle.ir_grammar.proofs.LawsOfEntities.{text_shape, law_text_form}
 use Rattle.ir_grammar.proofs.Exact.{read_whole, first_fault}
 use Rattle.ir_grammar.proofs.Agreement.{IsExceeded, Agrees, Agree}
 use Rattle.ir_grammar.proofs.AgreementOfEntities.{agree_text}
-use Rattle.ir_grammar.proofs.Ends.{OneLast, nothing_behind_last, has_last, last_of_pieces, text_ends}
+use Rattle.ir_grammar.proofs.Ends.{OneLast, nothing_after_last, has_last, last_of_pieces, text_ends}
 
 -- ---- the laws of texts
 
@@ -77,7 +77,7 @@ read_to_end bytes m l e =
     let h = subst (λ o. Traced false (text_form stated) (left no_names (pieces bytes)) o) e ((law_limited stated).traced (left no_names (pieces bytes))) in
     let k = text_ends stated no_names h.0 m l.names h.2 in
     let whole = h.1 ∙ ap (λ u. u ++ l.tokens) k.2 ∙ append_assoc k.0 (Is k.1 ∷ []) l.tokens in
-    let none = nothing_behind_last k.0 (Is k.1) l.tokens (subst OneLast whole (last_of_pieces bytes)) k.3 in
+    let none = nothing_after_last k.0 (Is k.1) l.tokens (subst OneLast whole (last_of_pieces bytes)) k.3 in
     (l.names, subst (λ u. (text_form stated).reads no_names u m l.names) (sym (h.1 ∙ ap (λ x. h.0 ++ x) none ∙ append-nil h.0)) h.2)
 
 pub read_exactly : (bytes : List ℕ) (m : modules.Module) → ReadsWithinLimits bytes m → (s : Names) × (read bytes ≡ Ok (m, record { names = s; tokens = [] }))
@@ -113,9 +113,9 @@ refused_front ts at e =
         let same : h.0 ≡ u = append_cancel_right h.0 u at (sym h.1 ∙ e1) in
         h.3 t rest e2 (subst (λ x. Begins (text_form (unlimited n)) no_names (x ++ t ∷ [])) (sym same) (begins_of f.0 n (u ++ t ∷ []) f.1 f.2 (omega arith) f.3))
 
--- the last piece of a text is not behind a fault
-not_behind : (bytes : List ℕ) → (text_form stated).parse (left no_names (pieces bytes)) ≡ Err (record { at = []; why = Refused }) → ⊥
-not_behind bytes e =
+-- the last piece of a text is not after a fault
+not_after : (bytes : List ℕ) → (text_form stated).parse (left no_names (pieces bytes)) ≡ Err (record { at = []; why = Refused }) → ⊥
+not_after bytes e =
     let h = refused_front (pieces bytes) [] e in
     let b = h.2 in
     let whole : pieces bytes ≡ h.0 = h.1 ∙ append-nil h.0 in
@@ -127,7 +127,7 @@ not_behind bytes e =
     cc (one, refused_freely 64 (pieces bytes) [] (omega arith) e)
 
 pub first_refused : (bytes : List ℕ) (at : List Piece) → read bytes ≡ Err (record { at = at; why = Refused }) → (u rest : List Piece) × (t : Piece) × (at ≡ t ∷ rest) × FirstRefused bytes u t rest
-first_refused bytes [] e = absurd (not_behind bytes e)
+first_refused bytes [] e = absurd (not_after bytes e)
 first_refused bytes (t ∷ rest) e = let h = refused_front (pieces bytes) (t ∷ rest) e in (h.0, rest, t, refl, (h.1, front_of 64 h.0 h.2, h.3 t rest refl))
 
 shorter_front : (u v : List Piece) → IsFront (u ++ v) → IsFront u
@@ -140,13 +140,13 @@ one_refused bytes u v t q rest more h k = at (split u rest v (q ∷ more) t (sym
     longer : (a b : List Piece) (p : Piece) (w : List Piece) → b ≡ a ++ p ∷ w → IsFront b → IsFront (a ++ p ∷ [])
     longer a b p w e f = shorter_front (a ++ p ∷ []) w (subst IsFront (e ∙ sym (append_assoc a (p ∷ []) w)) f)
 
-    behind : (w : List Piece) → u ≡ v ++ w → q ∷ more ≡ w ++ t ∷ rest → u ≡ v
-    behind [] e f = e ∙ append-nil v
-    behind (p ∷ w) e f = let same : q ≡ p = cc in absurd (k.2 (subst (λ x. IsFront (v ++ x ∷ [])) (sym same) (longer v u p w e h.1)))
+    read_further : (w : List Piece) → u ≡ v ++ w → q ∷ more ≡ w ++ t ∷ rest → u ≡ v
+    read_further [] e f = e ∙ append-nil v
+    read_further (p ∷ w) e f = let same : q ≡ p = cc in absurd (k.2 (subst (λ x. IsFront (v ++ x ∷ [])) (sym same) (longer v u p w e h.1)))
 
     at : ((w : List Piece) × (v ≡ u ++ t ∷ w) × (rest ≡ w ++ q ∷ more)) ⊎ ((w : List Piece) × (u ≡ v ++ w) × (q ∷ more ≡ w ++ t ∷ rest)) → u ≡ v
     at (inl c) = absurd (h.2 (longer u v t c.0 c.1 k.1))
-    at (inr c) = behind c.0 c.1 c.2
+    at (inr c) = read_further c.0 c.1 c.2
 
 -- ---- the limit that is exceeded
 
@@ -206,7 +206,7 @@ piece_of : (bytes : List ℕ) (at : List Piece) (y : Why) → read bytes ≡ Err
 piece_of bytes at Refused e = let h = first_refused bytes at e in (h.0, h.1, h.2, h.3, h.4.0)
 piece_of bytes at (Exceeds w) e = let h = exceeded_place bytes at w e in (h.0, h.1, Is h.2, h.3, h.4.0)
 
--- no fault stands behind the last piece
+-- no fault stands after the last piece
 pub fault_at_piece : (bytes : List ℕ) (d : Fault) → read bytes ≡ Err d → (u rest : List Piece) × (t : Piece) × (d.at ≡ t ∷ rest) × (pieces bytes ≡ u ++ t ∷ rest)
 fault_at_piece bytes d e = piece_of bytes d.at d.why e
 

@@ -46,7 +46,7 @@ abbrev pub Starts : Set → List Piece → Type 0
 Starts x [] = ⊥
 Starts x (t ∷ ts) = in_set x t ≡ true
 
--- where a fault at these tokens says that a limit is exceeded, the first of them exceeds it behind those before it
+-- where a fault at these tokens says that a limit is exceeded, the first of them exceeds it after those before it
 abbrev pub Exceeded : {A : Type 0} → Form A → Left → List Piece → Why → Type 0
 Exceeded f l at Refused = Unit {0}
 Exceeded f l at (Exceeds w) = (u rest : List Piece) × (t : Spot) × (l.tokens ≡ u ++ at) × (at ≡ Is t ∷ rest) × f.exceeds l.names (u ++ Is t ∷ []) w
@@ -125,16 +125,16 @@ no_start x w [] e h = absurd h
 no_start x [] (t ∷ u) e h = absurd cc
 no_start x (q ∷ w) (t ∷ u) e h = absurd cc
 
--- a fault of one form behind some tokens is one of another
+-- a fault of one form after some tokens is one of another
 pub faulted_as : {A B : Type 0} (f : Form A) (g : Form B) (l m : Left) (before : List Piece) → l.tokens ≡ before ++ m.tokens → ((u : List Piece) (w : Which) → f.exceeds m.names u w → g.exceeds l.names (before ++ u) w) → (at : List Piece) (y : Why) → Exceeded f m at y → Exceeded g l at y
 faulted_as f g l m before e h at Refused x = tt
 faulted_as f g l m before e h at (Exceeds w) x = (before ++ x.0, x.1, x.2, e ∙ ap (λ y. before ++ y) x.3 ∙ sym (append_assoc before x.0 at), x.4, subst (λ y. g.exceeds l.names y w) (sym (append_assoc before x.0 (Is x.2 ∷ []))) (h (x.0 ++ Is x.2 ∷ []) w x.5))
 
--- behind a form that takes the end nothing stands
-pub nothing_behind : (x : Set) (z : Shape) (u : List Piece) → Closes x → apart x z.first ≡ true → Heads z u → (u ≡ []) × (z.empty ≡ true)
-nothing_behind x z [] c e h = (refl, h)
-nothing_behind x z (Is t ∷ u) c e h = absurd (cc (not_in_first x z.first (Is t) e h, c t))
-nothing_behind x z (Bad b ∷ u) c e h = absurd cc
+-- after a form that takes the end nothing stands
+pub nothing_after : (x : Set) (z : Shape) (u : List Piece) → Closes x → apart x z.first ≡ true → Heads z u → (u ≡ []) × (z.empty ≡ true)
+nothing_after x z [] c e h = (refl, h)
+nothing_after x z (Is t ∷ u) c e h = absurd (cc (not_in_first x z.first (Is t) e h, c t))
+nothing_after x z (Bad b ∷ u) c e h = absurd cc
 
 -- ---- no token
 
@@ -347,8 +347,8 @@ law_then {A = A} {B = B} {w = w} f g z y lf lg e = record {
     started s u x (inl r) = start_left z.first (set_if z.empty y.first) u (lf.starts s u x r)
     started s u x (inr r) = rw r.4 (start_after r.2 r.3 (lf.heads s r.2 r.0 r.1 r.5) ((lg r.0).starts r.1 r.3 x r.6))
 
-    behind : (s : Names) (u : List Piece) (t : Spot) (x : Which) (rest : List Piece) (a : A) (s1 : Names) (u1 v : List Piece) → u ≡ u1 ++ v → f.reads s u1 a s1 → (g a).exceeds s1 (v ++ Is t ∷ []) x → (f >>= g).parse (left s (u ++ Is t ∷ rest)) ≡ Err (record { at = Is t ∷ rest; why = Exceeds x })
-    behind s u t x rest a s1 u1 v e1 r1 r2 =
+    exceeded_later : (s : Names) (u : List Piece) (t : Spot) (x : Which) (rest : List Piece) (a : A) (s1 : Names) (u1 v : List Piece) → u ≡ u1 ++ v → f.reads s u1 a s1 → (g a).exceeds s1 (v ++ Is t ∷ []) x → (f >>= g).parse (left s (u ++ Is t ∷ rest)) ≡ Err (record { at = Is t ∷ rest; why = Exceeds x })
+    exceeded_later s u t x rest a s1 u1 v e1 r1 r2 =
         let one = lf.whole s u1 a s1 (v ++ Is t ∷ rest) r1 (away_start z.greedy y.first v (Is t) [] rest e ((lg a).starts s1 (v ++ Is t ∷ []) x r2)) in
         ap (λ q. (f >>= g).parse (left s q)) (ap (λ q. q ++ Is t ∷ rest) e1 ∙ append_assoc u1 v (Is t ∷ rest)) ∙ ap (λ o. and_then o (λ a m. (g a).parse m)) one ∙ (lg a).over s1 v t x rest r2
 
@@ -358,12 +358,12 @@ law_then {A = A} {B = B} {w = w} f g z y lf lg e = record {
       where
         cut : ((v : List Piece) × (r.2 ≡ u ++ Is t ∷ v) × ([] ≡ v ++ r.3)) ⊎ ((v : List Piece) × (u ≡ r.2 ++ v) × (r.3 ≡ v ++ Is t ∷ [])) → (f >>= g).parse (left s (u ++ Is t ∷ rest)) ≡ Err (record { at = Is t ∷ rest; why = Exceeds x })
         cut (inl h) = no_start y.first h.0 r.3 h.2 ((lg r.0).starts r.1 r.3 x r.6)
-        cut (inr h) = behind s u t x rest r.0 r.1 r.2 h.0 h.1 r.5 (subst (λ q. (g r.0).exceeds r.1 q x) h.2 r.6)
+        cut (inr h) = exceeded_later s u t x rest r.0 r.1 r.2 h.0 h.1 r.5 (subst (λ q. (g r.0).exceeds r.1 q x) h.2 r.6)
 
     closing : (s : Names) (b : B) (s' : Names) (v : List Piece) (k : Piece) (x : List Piece) (a : A) (s1 : Names) (u1 u2 : List Piece) → f.reads s u1 a s1 → (g a).reads s1 u2 b s' → ((p : List Piece) × (u1 ≡ v ++ k ∷ p) × (x ≡ p ++ u2)) ⊎ ((p : List Piece) × (v ≡ u1 ++ p) × (u2 ≡ p ++ k ∷ x)) → is_last k ≡ true → Closes (after_shape z y).greedy × (x ≡ [])
     closing s b s' v k x a s1 u1 u2 r1 r2 (inl h) last =
         let c = lf.closes s u1 a s1 v k h.0 r1 h.1 last in
-        let n = nothing_behind z.greedy y u2 c.0 e ((lg a).heads s1 u2 b s' r2) in
+        let n = nothing_after z.greedy y u2 c.0 e ((lg a).heads s1 u2 b s' r2) in
         (λ t. in_right y.greedy (set_if y.empty z.greedy) (Is t) (rw n.1 (c.0 t)), h.2 ∙ rw (c.1, n.0) refl)
     closing s b s' v k x a s1 u1 u2 r1 r2 (inr h) last =
         let c = (lg a).closes s1 u2 b s' h.0 k x r2 h.2 last in

@@ -27,7 +27,7 @@ use Rattle.ir_grammar.proofs.FormLaws.{Shape, Law, Fits}
 use Rattle.ir_grammar.proofs.LawsOfRounds.{law_rounds, rounds_greedy}
 use Rattle.ir_grammar.proofs.Within.{within_head}
 use Rattle.ir_grammar.proofs.Rules.{begins_with, goes_on_with, maybe, seq, or, again, done, expects, takes, shaped, going_on}
-use Rattle.ir_grammar.proofs.LawsOfTokens.{is_sign, law_text, law_int, law_skip, law_behind_comma}
+use Rattle.ir_grammar.proofs.LawsOfTokens.{is_sign, law_text, law_int, law_skip, law_after_comma}
 use Rattle.ir_grammar.proofs.LawsOfTypes.{law_type_form}
 use Rattle.ir_grammar.proofs.LawsOfValues.{law_address, law_gep, law_const_word, law_local_value, law_value}
 use Rattle.ir_grammar.proofs.LawsOfGroups.{law_group}
@@ -52,7 +52,7 @@ law_note = seq law_meta (λ (m : Unit). law_note_rest) refl
 
 pub law_notes : {w : Bool} → Law w notes (maybe (sign 44) (sign 44))
 unfolding notes
-law_notes = law_skip (law_behind_comma law_note) refl refl refl
+law_notes = law_skip (law_after_comma law_note) refl refl refl
 
 -- ---- attributes
 

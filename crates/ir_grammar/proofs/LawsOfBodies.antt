@@ -24,12 +24,12 @@ use Rattle.ir_grammar.specs.Tokens.{Limits, sign, word, kind, text}
 use Rattle.ir_grammar.specs.Types.{type_set}
 use Rattle.ir_grammar.specs.Values.{gep_word}
 use Rattle.ir_grammar.specs.Operations.{line_set, other_line_set, Line, instr_at}
-use Rattle.ir_grammar.specs.Bodies.{label, void_word, Ended, void_end, ret_end, br_end, switch_case, switch_end, unreachable_end, end_form, end_set, with_instr, code, finish, lines, labelled, unlabelled, block_of, grown, block, block_set, settled, begun, local_behind, gep_behind, plain_value_set, value_behind, other_lines, other_unlabelled, other_block, other_block_set, behind_void, next_block, next_set, all_blocks, last_blocks, more_blocks, body}
+use Rattle.ir_grammar.specs.Bodies.{label, void_word, Ended, void_end, ret_end, br_end, switch_case, switch_end, unreachable_end, end_form, end_set, with_instr, code, finish, lines, labelled, unlabelled, block_of, grown, block, block_set, settled, begun, local_after, gep_after, plain_value_set, value_after, other_lines, other_unlabelled, other_block, other_block_set, after_void, next_block, next_set, all_blocks, last_blocks, more_blocks, body}
 use Rattle.ir_grammar.proofs.FormLaws.{Shape, Law}
 use Rattle.ir_grammar.proofs.LawsOfRounds.{law_rounds}
 use Rattle.ir_grammar.proofs.Within.{within}
 use Rattle.ir_grammar.proofs.Rules.{begins_with, goes_on_with, maybe, seq, or, again, done, does, placed, shaped, collect}
-use Rattle.ir_grammar.proofs.LawsOfTokens.{is_sign, is_word, law_text, law_behind_comma}
+use Rattle.ir_grammar.proofs.LawsOfTokens.{is_sign, is_word, law_text, law_after_comma}
 use Rattle.ir_grammar.proofs.LawsOfTypes.{law_value_type}
 use Rattle.ir_grammar.proofs.LawsOfValues.{law_address, law_integer, law_const_word, law_gep_flags, law_gep_rest, law_value, law_typed}
 use Rattle.ir_grammar.proofs.LawsOfAttributes.{law_note, law_notes}
@@ -44,7 +44,7 @@ law_label = seq (is_word (codes "label") refl) (λ (u : Unit). seq law_local_nam
 pub law_void_end : {w : Bool} → Law w void_end (goes_on_with void_word (sign 44))
 unfolding void_end
 law_void_end =
-    shaped (seq (is_word (codes "void") refl) (λ (u : Unit). or (seq (law_behind_comma law_note) (λ (m : Unit). seq law_notes (λ (n : Unit). done (ends.Ret None, false)) refl) refl) (done (ends.Ret None, true)) refl refl) refl) void_word (sign 44) refl refl
+    shaped (seq (is_word (codes "void") refl) (λ (u : Unit). or (seq (law_after_comma law_note) (λ (m : Unit). seq law_notes (λ (n : Unit). done (ends.Ret None, false)) refl) refl) (done (ends.Ret None, true)) refl refl) refl) void_word (sign 44) refl refl
 
 law_ret_end : {w : Bool} (l : Limits) → Law w (ret_end l) (goes_on_with (word (codes "ret")) (sign 44))
 unfolding ret_end
@@ -111,7 +111,7 @@ law_block : {w : Bool} (l : Limits) → AnyParams w l → (bs : List Block) → 
 unfolding block
 law_block l h bs = shaped (seq (placed (or (law_labelled l h) (law_unlabelled l h) refl refl) refl) (λ (x : Place × Lines). done (grown bs x.1.bare (block_of x.0 x.1))) refl) block_set (sign 44) refl refl
 
--- ---- behind `ret void`
+-- ---- after `ret void`
 
 law_begun : {w : Bool} (l : Limits) → AnyParams w l → (bs : List Block) (p : Place) (x : LocalId × (LocalId × Op)) → Law w (begun l bs p x) (goes_on_with lines_set (sign 44))
 law_begun l h bs p x = seq (law_lines l h x.0 (record { place = p; result = Some x.1.0; op = x.1.1 } ∷ [])) (λ (y : Lines). done (grown bs y.bare (block_of p y))) refl
@@ -119,23 +119,23 @@ law_begun l h bs p x = seq (law_lines l h x.0 (record { place = p; result = Some
 abbrev pub local_greedy : Set
 local_greedy = sign 44 ++ sign 61
 
-law_local_behind : {w : Bool} (l : Limits) → AnyParams w l → (bs : List Block) (b : Block) → Law w (local_behind l bs b) (goes_on_with (kind kinds.Local) local_greedy)
-unfolding local_behind
-law_local_behind l h bs b =
+law_local_after : {w : Bool} (l : Limits) → AnyParams w l → (bs : List Block) (b : Block) → Law w (local_after l bs b) (goes_on_with (kind kinds.Local) local_greedy)
+unfolding local_after
+law_local_after l h bs b =
     shaped (seq (placed law_local_name refl) (λ (n : Place × List ℕ). or
     (seq (is_sign 61 refl) (λ (e : Unit). seq (does define_next) (λ (k : LocalId). seq (does (define n.1)) (λ (r : LocalId). seq (law_op l h) (λ (o : Op). law_begun l h (bs ++ b ∷ []) n.0 (k, (r, o))) refl) refl) refl) refl)
     (seq (does (local n.1)) (λ (x : LocalId). seq law_notes (λ (e : Unit). done (settled bs b (operands.Local x))) refl) refl) refl refl) refl) (kind kinds.Local) local_greedy refl refl
 
-law_gep_behind : {w : Bool} (l : Limits) → AnyParams w l → (bs : List Block) (b : Block) → Law w (gep_behind l bs b) (goes_on_with gep_word (sign 44))
-unfolding gep_behind
-law_gep_behind l h bs b =
+law_gep_after : {w : Bool} (l : Limits) → AnyParams w l → (bs : List Block) (b : Block) → Law w (gep_after l bs b) (goes_on_with gep_word (sign 44))
+unfolding gep_after
+law_gep_after l h bs b =
     shaped (seq (placed (is_word (codes "getelementptr") refl) refl) (λ (g : Place × Unit). seq law_gep_flags (λ (f : Unit). or
     (seq (law_gep_rest l.length l.levels) (λ (c : Const). seq law_notes (λ (e : Unit). done (settled bs b (operands.Const c))) refl) refl)
     (seq (does define_next) (λ (k : LocalId). seq (does define_next) (λ (r : LocalId). seq (law_gep_op_rest l) (λ (o : Op). law_begun l h (bs ++ b ∷ []) g.0 (k, (r, o))) refl) refl) refl) refl refl) refl) refl) gep_word (sign 44) refl refl
 
-pub law_value_behind : {w : Bool} (bs : List Block) (b : Block) → Law w (value_behind bs b) (goes_on_with plain_value_set (sign 44))
-unfolding value_behind
-law_value_behind bs b =
+pub law_value_after : {w : Bool} (bs : List Block) (b : Block) → Law w (value_after bs b) (goes_on_with plain_value_set (sign 44))
+unfolding value_after
+law_value_after bs b =
     shaped (seq (or law_address (or law_integer law_const_word refl refl) refl refl) (λ (c : Const). seq law_notes (λ (e : Unit). done (settled bs b (operands.Const c))) refl) refl) plain_value_set (sign 44) refl refl
 
 abbrev other_lines_set : Set
@@ -156,9 +156,9 @@ law_other_block l h bs = shaped (seq (placed (or (law_labelled l h) (law_other_u
 abbrev void_set : Set
 void_set = kind kinds.Local ++ gep_word ++ plain_value_set ++ other_block_set
 
-law_behind_void : {w : Bool} (l : Limits) → AnyParams w l → (bs : List Block) (b : Block) → Law w (behind_void l bs b) (goes_on_with void_set local_greedy)
-unfolding behind_void
-law_behind_void l h bs b = shaped (or (law_local_behind l h bs b) (or (law_gep_behind l h bs b) (or (law_value_behind bs b) (law_other_block l h (bs ++ b ∷ [])) refl refl) refl refl) refl refl) void_set local_greedy refl refl
+law_after_void : {w : Bool} (l : Limits) → AnyParams w l → (bs : List Block) (b : Block) → Law w (after_void l bs b) (goes_on_with void_set local_greedy)
+unfolding after_void
+law_after_void l h bs b = shaped (or (law_local_after l h bs b) (or (law_gep_after l h bs b) (or (law_value_after bs b) (law_other_block l h (bs ++ b ∷ [])) refl refl) refl refl) refl refl) void_set local_greedy refl refl
 
 -- ---- bodies
 
@@ -167,7 +167,7 @@ z o = goes_on_with (next_set o) local_greedy
 
 pub law_next_block : {w : Bool} (l : Limits) → AnyParams w l → (bs : List Block) (o : Option Block) → Law w (next_block l bs o) (z o)
 law_next_block l h bs None = shaped (law_block l h bs) block_set local_greedy refl refl
-law_next_block l h bs (Some b) = law_behind_void l h bs b
+law_next_block l h bs (Some b) = law_after_void l h bs b
 
 apart_stop : (o : Option Block) → apart (next_set o) (sign 125) ≡ true
 apart_stop None = refl

@@ -26,7 +26,7 @@ use Rattle.ir_grammar.specs.Tokens.{Limits, is_past, sign, kind, words_of}
 use Rattle.ir_grammar.specs.Types.{type_set}
 use Rattle.ir_grammar.specs.Attributes.{no_marks, attribute_set}
 use Rattle.ir_grammar.specs.Operations.{in_brackets}
-use Rattle.ir_grammar.specs.Entities.{equals, source_word, source_filename, target_word, target_words, target_of, target, attributes_word, group_of, attributes, metadata_rest, metadata, type_def, global_words, linkage, storage_words, global_end, global_var, param_name, param, define_if, define_of, define_word, without_groups, locals_so_far, forget_locals, definition, declare_word, before_name, declaration, other_entity_set, other_entity, entity_set, entity, no_entities, added, module_of, note_or_metadata, behind_declaration, next_entity, next_set, text_end, text_form}
+use Rattle.ir_grammar.specs.Entities.{equals, source_word, source_filename, target_word, target_words, target_of, target, attributes_word, group_of, attributes, metadata_rest, metadata, type_def, global_words, linkage, storage_words, global_end, global_var, param_name, param, define_if, define_of, define_word, without_groups, locals_so_far, forget_locals, definition, declare_word, before_name, declaration, other_entity_set, other_entity, entity_set, entity, no_entities, added, module_of, note_or_metadata, after_declaration, next_entity, next_set, text_end, text_form}
 use Rattle.ir_grammar.proofs.FormLaws.{Shape, Law, Fits, law_token}
 use Rattle.ir_grammar.proofs.LawsOfRounds.{law_rounds}
 use Rattle.ir_grammar.proofs.Rules.{spot, begins_with, goes_on_with, maybe, seq, or, again, done, does, placed, expects, law_one_word, shaped}
@@ -169,19 +169,19 @@ law_note_or_metadata d = seq law_meta (λ (m : Unit). or (seq law_note_rest (λ 
 abbrev pub step_greedy : Set
 step_greedy = entity_greedy ++ attribute_greedy
 
-law_behind_declaration : {w : Bool} (l : Limits) (d : Draft) → AnyParams w l → AnyFunctions w l → Law w (behind_declaration l d) (goes_on_with (next_set true) step_greedy)
-unfolding behind_declaration
-law_behind_declaration l d h k =
+law_after_declaration : {w : Bool} (l : Limits) (d : Draft) → AnyParams w l → AnyFunctions w l → Law w (after_declaration l d) (goes_on_with (next_set true) step_greedy)
+unfolding after_declaration
+law_after_declaration l d h k =
     shaped (or (law_note_or_metadata d) (or (seq (law_attribute barred.Nothing) (λ (a : Attribute). done d) refl) (seq (law_other_entity l (length d.definitions) h k) (λ (e : Entity). done (added d e)) refl) refl refl) refl refl) (next_set true) step_greedy refl refl
 
 abbrev pub z : Bool → Shape
 z b = goes_on_with (next_set b) step_greedy
 
 pub law_next_entity : {w : Bool} (l : Limits) (d : Draft) (b : Bool) → AnyParams w l → AnyFunctions w l → Law w (next_entity l d b) (z b)
-law_next_entity l d true h k = law_behind_declaration l d h k
+law_next_entity l d true h k = law_after_declaration l d h k
 law_next_entity l d false h k = shaped (seq (law_entity l (length d.definitions) h k) (λ (e : Entity). done (added d e)) refl) entity_set step_greedy refl refl
 
--- behind the end of a text nothing stands
+-- after the end of a text nothing stands
 abbrev pub any_more : Set
 any_more = Any ∷ []
 

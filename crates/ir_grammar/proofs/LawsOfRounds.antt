@@ -9,7 +9,7 @@ use Rattle.ir_grammar.specs.Sets.{Set, in_set, head_in, apart, set_if}
 use Rattle.ir_grammar.specs.Names.{Names}
 use Rattle.ir_grammar.specs.Forms.{Left, Exceeds, Outcome, Form, and_then, Rounds, RoundsExceed, rounds, rounds_at}
 use Rattle.ir_grammar.proofs.Apart.{or_true, in_append, not_in_first, head_append, head_set_if, in_left, in_right}
-use Rattle.ir_grammar.proofs.FormLaws.{Shape, Heads, after, left, Traced, Starts, Faulted, Closes, Law, split, away, away_all, away_start, start_left, start_right, no_start, faulted_as, nothing_behind, begins, begins_at, starts_at}
+use Rattle.ir_grammar.proofs.FormLaws.{Shape, Heads, after, left, Traced, Starts, Faulted, Closes, Law, split, away, away_all, away_start, start_left, start_right, no_start, faulted_as, nothing_after, begins, begins_at, starts_at}
 
 abbrev pub rounds_greedy : Shape → Shape → Shape → Set
 rounds_greedy before z y = y.greedy ++ set_if y.empty (before.greedy ++ z.first)
@@ -173,14 +173,14 @@ law_rounds {X = X} {Y = Y} {free = free} p go stop z y greedy lg ls same some e1
         choose ih true = go_first ih ((go x).parse l) ((lg x).traced l) ((lg x).excess l)
         choose ih false = stop_excess x l ((stop x).parse l) ((ls x).excess l)
 
-    start_behind : (x : X) (u w : List Piece) → Heads (z x) u → Starts ((z x).first ++ (y x).first) (u ++ w)
-    start_behind x [] w h = absurd (cc (some x, h))
-    start_behind x (t ∷ u) w h = in_left (z x).first (y x).first t h
+    start_after : (x : X) (u w : List Piece) → Heads (z x) u → Starts ((z x).first ++ (y x).first) (u ++ w)
+    start_after x [] w h = absurd (cc (some x, h))
+    start_after x (t ∷ u) w h = in_left (z x).first (y x).first t h
 
     started : (n : ℕ) (x : X) (s : Names) (u : List Piece) (w : Which) → RoundsExceed go stop n x s u w → Starts ((z x).first ++ (y x).first) u
     started zero x s u w (inl r) = start_left (z x).first (y x).first u ((lg x).starts s u w r)
     started zero x s u w (inr r) = start_right (z x).first (y x).first u ((ls x).starts s u w r)
-    started (suc n) x s u w r = rw r.4 (start_behind x r.2 r.3 ((lg x).heads s r.2 r.0 r.1 r.5))
+    started (suc n) x s u w r = rw r.4 (start_after x r.2 r.3 ((lg x).heads s r.2 r.0 r.1 r.5))
 
     apart_both : (x0 x : X) (t : Piece) → in_set ((z x).first ++ (y x).first) t ≡ true → in_set (z x0).greedy t ≡ false
     apart_both x0 x t h = at (or_true (in_set (z x).first t) (in_set (y x).first t) (sym (in_append (z x).first (y x).first t) ∙ h))
@@ -219,10 +219,10 @@ law_rounds {X = X} {Y = Y} {free = free} p go stop z y greedy lg ls same some e1
     closed_by_round : (x0 x : X) → (y x).empty ≡ true → Closes (z x0).greedy → Closes greedy
     closed_by_round x0 x e c t = passed_on (rounds_greedy (z x0) (z x) (y x)) greedy t (all x x0 (Is t ∷ [])) (in_right (y x).greedy (set_if (y x).empty ((z x0).greedy ++ (z x).first)) (Is t) (rw e (in_left (z x0).greedy (z x).first (Is t) (c t))))
 
-    -- behind a round that takes the end no round stands, and the end is empty
+    -- after a round that takes the end no round stands, and the end is empty
     last_round : (n : ℕ) (x0 x : X) (s : Names) (u : List Piece) (b : Y) (s' : Names) → Closes (z x0).greedy → Rounds go stop n x s u b s' → Closes greedy × (u ≡ [])
-    last_round zero x0 x s u b s' c r = let h = nothing_behind (z x0).greedy (y x) u c (e3 x0 x) ((ls x).heads s u b s' r) in (closed_by_round x0 x h.1 c, h.0)
-    last_round (suc n) x0 x s u b s' c r = let h = nothing_behind (z x0).greedy (z x) r.2 c (e2 x0 x) ((lg x).heads s r.2 r.0 r.1 r.5) in absurd (cc (some x, h.1))
+    last_round zero x0 x s u b s' c r = let h = nothing_after (z x0).greedy (y x) u c (e3 x0 x) ((ls x).heads s u b s' r) in (closed_by_round x0 x h.1 c, h.0)
+    last_round (suc n) x0 x s u b s' c r = let h = nothing_after (z x0).greedy (z x) r.2 c (e2 x0 x) ((lg x).heads s r.2 r.0 r.1 r.5) in absurd (cc (some x, h.1))
 
     closing : (n : ℕ) (x : X) (s : Names) (u : List Piece) (b : Y) (s' : Names) (v : List Piece) (e : Piece) (k : List Piece) → Rounds go stop n x s u b s' → u ≡ v ++ e ∷ k → is_last e ≡ true → Closes greedy × (k ≡ [])
     closing zero x s u b s' v e k r eq last = let c = (ls x).closes s u b s' v e k r eq last in (closed_by_stop x c.0, c.1)

@@ -10,7 +10,7 @@ use Rattle.ir_grammar.specs.declared.kinds.Kind.TheVariants as kinds
 use Rattle.ir_grammar.specs.declared.which.Which.{Which}
 use Rattle.ir_grammar.specs.Sets.{Set, has, apart}
 use Rattle.ir_grammar.specs.Forms.{Form, Verdict, Takes, Refuses, Over, ◌>>=◌}
-use Rattle.ir_grammar.specs.Tokens.{expect, sign, word, kind, text_if, text_of, text, bytes_of, int_of, int, in_range, number_of, number, over, skip, many, behind_comma, listed}
+use Rattle.ir_grammar.specs.Tokens.{expect, sign, word, kind, text_if, text_of, text, bytes_of, int_of, int, in_range, number_of, number, over, skip, many, after_comma, listed}
 use Rattle.ir_grammar.proofs.FormLaws.{Shape, Law, Fits, token_shape, law_token}
 use Rattle.ir_grammar.proofs.Rules.{begins_with, goes_on_with, maybe, seq, or, again, done, expects, takes, collect}
 
@@ -99,9 +99,9 @@ law_over {A = A} {w = w} which z e any = record {
 pub law_skip : {w : Bool} {f : Form Unit} {z g : Set} → Law w f (goes_on_with z g) → apart z [] ≡ true → apart g z ≡ true → apart g [] ≡ true → Law w (skip z f) (maybe (z ++ []) (g ++ z))
 law_skip law e1 e2 e3 = again (λ (x : Unit). law) (λ (x : Unit). done tt) refl e1 e2 e3 tt
 
-pub law_behind_comma : {A : Type 0} {w : Bool} {f : Form A} {z g : Set} → Law w f (goes_on_with z g) → Law w (behind_comma f) (goes_on_with (sign 44) (g ++ []))
-law_behind_comma law = seq (is_sign 44 refl) (λ (c : Unit). law) refl
+pub law_after_comma : {A : Type 0} {w : Bool} {f : Form A} {z g : Set} → Law w f (goes_on_with z g) → Law w (after_comma f) (goes_on_with (sign 44) (g ++ []))
+law_after_comma law = seq (is_sign 44 refl) (λ (c : Unit). law) refl
 
 pub law_listed : {A : Type 0} {w : Bool} {f : Form A} {z : Set} → Law w f (begins_with z) → apart z [] ≡ true → Law w (listed z f) (maybe (z ++ []) (sign 44 ++ z))
 law_listed {A = A} {w = w} {f = f} {z = z} law e =
-    or (subst (λ q. Law w (f >>= λ a. many (sign 44) (behind_comma f) (a ∷ [])) (goes_on_with q (sign 44))) (append-nil z) (seq law (λ (a : A). collect (law_behind_comma law) refl refl refl (a ∷ [])) refl)) (done []) refl e
+    or (subst (λ q. Law w (f >>= λ a. many (sign 44) (after_comma f) (a ∷ [])) (goes_on_with q (sign 44))) (append-nil z) (seq law (λ (a : A). collect (law_after_comma law) refl refl refl (a ∷ [])) refl)) (done []) refl e

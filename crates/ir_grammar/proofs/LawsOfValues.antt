@@ -23,7 +23,7 @@ use Rattle.ir_grammar.specs.Values.{const_words, gep_word, gep_flag, gep_flags, 
 use Rattle.ir_grammar.proofs.Apart.{in_left, in_right}
 use Rattle.ir_grammar.proofs.FormLaws.{Law, Fits}
 use Rattle.ir_grammar.proofs.Rules.{spot, begins_with, maybe, seq, or, done, does, expects, takes, looked, law_one_word, shaped, collect}
-use Rattle.ir_grammar.proofs.LawsOfTokens.{is_sign, is_word, law_text, law_int, law_skip, law_behind_comma, law_listed}
+use Rattle.ir_grammar.proofs.LawsOfTokens.{is_sign, is_word, law_text, law_int, law_skip, law_after_comma, law_listed}
 use Rattle.ir_grammar.proofs.LawsOfTypes.{law_type, law_type_form}
 
 pub law_gep_flags : {w : Bool} → Law w gep_flags (maybe gep_flag gep_flag)
@@ -41,7 +41,7 @@ pub law_gep_rest : {w : Bool} (most : Option ℕ) (n : ℕ) → Law w (gep_rest 
 unfolding gep_rest
 law_gep_rest most n =
     seq (is_sign 40 refl) (λ (o : Unit). seq (law_type true most n) (λ (t : IrType). seq (is_sign 44 refl) (λ (c : Unit). seq (is_word (codes "ptr") refl) (λ (p : Unit).
-    seq law_global (λ (g : SymId). seq (collect (law_behind_comma (law_index most n)) refl refl refl []) (λ (is : List TypedCount). seq (is_sign 41 refl) (λ (d : Unit). done (consts.Gep t g is)) refl) refl) refl) refl) refl) refl) refl
+    seq law_global (λ (g : SymId). seq (collect (law_after_comma (law_index most n)) refl refl refl []) (λ (is : List TypedCount). seq (is_sign 41 refl) (λ (d : Unit). done (consts.Gep t g is)) refl) refl) refl) refl) refl) refl) refl
 
 pub law_gep : {w : Bool} (most : Option ℕ) (n : ℕ) → Law w (gep most n) (begins_with gep_word)
 unfolding gep

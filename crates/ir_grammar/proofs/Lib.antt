@@ -4,6 +4,7 @@ pub mod FormLaws
 pub mod LawsOfRounds
 pub mod Rules
 pub mod LawsOfTokens
+pub mod LookedUp
 pub mod LawsOfTypes
 pub mod LawsOfValues
 pub mod LawsOfGroups

@@ -70,14 +70,14 @@ takes v z fit t a e = law_token v z fit (λ free. (spot t, a, e))
 looked_on : {A : Type 0} (r : List ℕ × A) (table : List (List ℕ × A)) (w : List ℕ) → Fits (words_of table) (tokens.Word w) (look table w) → Fits (words_of (r ∷ table)) (tokens.Word w) (look (r ∷ table) w)
 looked_on {A = A} r table w h = at (bytes_eq w r.0) refl
   where
-    behind : (o : Verdict A) → Fits (words_of table) (tokens.Word w) o → Fits (words_of (r ∷ table)) (tokens.Word w) o
-    behind (Takes a) h = or_right (bytes_eq w r.0) (has (words_of table) (tokens.Word w)) h
-    behind Refuses h = tt
-    behind (Over x) h = or_right (bytes_eq w r.0) (has (words_of table) (tokens.Word w)) h
+    after : (o : Verdict A) → Fits (words_of table) (tokens.Word w) o → Fits (words_of (r ∷ table)) (tokens.Word w) o
+    after (Takes a) h = or_right (bytes_eq w r.0) (has (words_of table) (tokens.Word w)) h
+    after Refuses h = tt
+    after (Over x) h = or_right (bytes_eq w r.0) (has (words_of table) (tokens.Word w)) h
 
     at : (b : Bool) → bytes_eq w r.0 ≡ b → Fits {A = A} (words_of (r ∷ table)) (tokens.Word w) (if b then Takes r.1 else look table w)
     at true e = rw e refl
-    at false e = behind (look table w) h
+    at false e = after (look table w) h
 
 -- a word that a table has
 pub looked : {A : Type 0} (table : List (List ℕ × A)) (w : List ℕ) → Fits (words_of table) (tokens.Word w) (look table w)

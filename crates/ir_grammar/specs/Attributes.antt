@@ -19,7 +19,7 @@ use Rattle.ir_grammar.specs.declared.parts.Stand.TheVariants.{Free, AfterWord, A
 use Rattle.ir_grammar.specs.Sets.{Set, Other, is_integer_type, among}
 use Rattle.ir_grammar.specs.Words.{no_attributes}
 use Rattle.ir_grammar.specs.Forms.{Form, ret, token, Verdict, Takes, Refuses, ◌>>=◌, either, rounds}
-use Rattle.ir_grammar.specs.Tokens.{Limits, expect, sign, kind, one_word, text, int, skip, behind_comma}
+use Rattle.ir_grammar.specs.Tokens.{Limits, expect, sign, kind, one_word, text, int, skip, after_comma}
 use Rattle.ir_grammar.specs.Groups.{group}
 use Rattle.ir_grammar.specs.Types.{type_form}
 use Rattle.ir_grammar.specs.Values.{address, gep_word, gep, const_words, local_value, value_set, value}
@@ -42,7 +42,7 @@ note = meta >>= λ m. note_rest
 
 -- { , note }
 unfoldable pub notes : Form Unit
-notes = skip (sign 44) (behind_comma note)
+notes = skip (sign 44) (after_comma note)
 
 -- ---- attributes
 
@@ -120,7 +120,7 @@ mark_or_note m = either (kind kinds.Meta) (note >>= λ n. ret m) (one_mark barre
 unfoldable pub attributes_and_notes : Marks → Form Marks
 attributes_and_notes = rounds (λ m. mark_or_note_set) mark_or_note (λ m. ret m)
 
--- ---- an argument's attributes and value: an integer behind a word is the word's, or, where nothing of an argument
+-- ---- an argument's attributes and value: an integer after a word is the word's, or, where nothing of an argument
 -- follows, the value
 
 abbrev pub not_word : Barred → Form Stand

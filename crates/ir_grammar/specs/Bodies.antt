@@ -19,7 +19,7 @@ use Rattle.ir_grammar.specs.declared.parts.Progress.{Progress}
 use Rattle.ir_grammar.specs.Names.{local, define, define_next}
 use Rattle.ir_grammar.specs.Sets.{Set}
 use Rattle.ir_grammar.specs.Forms.{Form, act, ret, ◌>>=◌, either, rounds, located}
-use Rattle.ir_grammar.specs.Tokens.{Limits, expect, sign, word, kind, words_of, one_word, text, many, behind_comma}
+use Rattle.ir_grammar.specs.Tokens.{Limits, expect, sign, word, kind, words_of, one_word, text, many, after_comma}
 use Rattle.ir_grammar.specs.Types.{value_type, type_set}
 use Rattle.ir_grammar.specs.Values.{address, integer, gep_word, gep_flags, gep_rest, const_words, value, typed}
 use Rattle.ir_grammar.specs.Attributes.{note, notes}
@@ -34,16 +34,16 @@ label = expect (word (codes "label")) >>= λ w. text kinds.Local >>= λ n. act (
 abbrev pub void_word : Set
 void_word = word (codes "void")
 
--- a terminator, and whether it is `ret void`, behind which a value may stand
+-- a terminator, and whether it is `ret void`, after which a value may stand
 abbrev pub Ended : Type 0
 Ended = End × Bool
 
--- `void`: with a note behind it no value can come
-abbrev pub behind_void_word : Form Ended
-behind_void_word = either (sign 44) (behind_comma note >>= λ m. notes >>= λ n. ret (ends.Ret None, false)) (ret (ends.Ret None, true))
+-- `void`: with a note after it no value can come
+abbrev pub after_void_word : Form Ended
+after_void_word = either (sign 44) (after_comma note >>= λ m. notes >>= λ n. ret (ends.Ret None, false)) (ret (ends.Ret None, true))
 
 unfoldable pub void_end : Form Ended
-void_end = expect void_word >>= λ w. behind_void_word
+void_end = expect void_word >>= λ w. after_void_word
 
 -- type value
 abbrev pub value_end : Limits → Form Ended
@@ -105,7 +105,7 @@ end_set = word (codes "ret") ++ word (codes "br") ++ word (codes "switch") ++ wo
 
 -- ---- blocks
 
--- instructions, behind those that are there
+-- instructions, after those that are there
 abbrev pub with_instr : List Instr → Option Instr → List Instr
 with_instr is None = is
 with_instr is (Some i) = is ++ i ∷ []
@@ -166,9 +166,9 @@ local_begins l bs p n = expect (sign 61) >>= λ e. act define_next >>= λ k. act
 abbrev pub local_settles : List Block → Block → List ℕ → Form Progress
 local_settles bs b n = act (local n) >>= λ x. notes >>= λ e. ret (settled bs b (operands.Local x))
 
--- Behind `ret void`: LOCAL is its value, or with `=` the first instruction of the next block
-unfoldable pub local_behind : Limits → List Block → Block → Form Progress
-local_behind l bs b = located (text kinds.Local) >>= λ n. either (sign 61) (local_begins l (bs ++ b ∷ []) n.0 n.1) (local_settles bs b n.1)
+-- After `ret void`: LOCAL is its value, or with `=` the first instruction of the next block
+unfoldable pub local_after : Limits → List Block → Block → Form Progress
+local_after l bs b = located (text kinds.Local) >>= λ n. either (sign 61) (local_begins l (bs ++ b ∷ []) n.0 n.1) (local_settles bs b n.1)
 
 abbrev pub gep_settles : Limits → List Block → Block → Form Progress
 gep_settles l bs b = gep_rest l.length l.levels >>= λ c. notes >>= λ e. ret (settled bs b (operands.Const c))
@@ -177,9 +177,9 @@ gep_settles l bs b = gep_rest l.length l.levels >>= λ c. notes >>= λ e. ret (s
 abbrev pub gep_begins : Limits → List Block → Place → Form Progress
 gep_begins l bs p = act define_next >>= λ k. act define_next >>= λ r. gep_op_rest l >>= λ o. begun l bs p (k, (r, o))
 
--- Behind `ret void`: `getelementptr` is its value where a bracket follows, else the first instruction of the next block
-unfoldable pub gep_behind : Limits → List Block → Block → Form Progress
-gep_behind l bs b = do
+-- After `ret void`: `getelementptr` is its value where a bracket follows, else the first instruction of the next block
+unfoldable pub gep_after : Limits → List Block → Block → Form Progress
+gep_after l bs b = do
   g ← located (expect gep_word)
   f ← gep_flags
   either (sign 40) (gep_settles l bs b) (gep_begins l (bs ++ b ∷ []) g.0)
@@ -190,17 +190,17 @@ plain_value_set = kind kinds.Global ++ kind kinds.Int ++ words_of const_words
 abbrev pub plain_value : Form Const
 plain_value = either (kind kinds.Global) address (either (kind kinds.Int) integer (one_word const_words))
 
--- Behind `ret void`: another value
-unfoldable pub value_behind : List Block → Block → Form Progress
-value_behind bs b = plain_value >>= λ c. notes >>= λ e. ret (settled bs b (operands.Const c))
+-- After `ret void`: another value
+unfoldable pub value_after : List Block → Block → Form Progress
+value_after bs b = plain_value >>= λ c. notes >>= λ e. ret (settled bs b (operands.Const c))
 
--- such a first line, and the lines behind it
-abbrev pub lines_behind : Limits → LocalId → Form Lines
-lines_behind l b = located (other_line l) >>= λ x. lines l b (with_instr [] (instr_at x.0 x.1))
+-- such a first line, and the lines after it
+abbrev pub lines_after : Limits → LocalId → Form Lines
+lines_after l b = located (other_line l) >>= λ x. lines l b (with_instr [] (instr_at x.0 x.1))
 
 -- the lines of a block without a label, of which the first begins with another word than `getelementptr`
 unfoldable pub other_lines : Limits → LocalId → Form Lines
-other_lines l b = either other_line_set (lines_behind l b) (finish l b [])
+other_lines l b = either other_line_set (lines_after l b) (finish l b [])
 
 unfoldable pub other_unlabelled : Limits → Form Lines
 other_unlabelled l = act define_next >>= λ b. other_lines l b
@@ -211,14 +211,14 @@ other_block l bs = located (either (kind kinds.Label) (labelled l) (other_unlabe
 abbrev pub other_block_set : Set
 other_block_set = kind kinds.Label ++ other_line_set ++ end_set
 
--- Behind `ret void`: its value, or the next block
-unfoldable pub behind_void : Limits → List Block → Block → Form Progress
-behind_void l bs b = either (kind kinds.Local) (local_behind l bs b) (either gep_word (gep_behind l bs b) (either plain_value_set (value_behind bs b) (other_block l (bs ++ b ∷ []))))
+-- After `ret void`: its value, or the next block
+unfoldable pub after_void : Limits → List Block → Block → Form Progress
+after_void l bs b = either (kind kinds.Local) (local_after l bs b) (either gep_word (gep_after l bs b) (either plain_value_set (value_after bs b) (other_block l (bs ++ b ∷ []))))
 
 -- what follows the blocks so far
 abbrev pub next_block : Limits → List Block → Option Block → Form Progress
 next_block l bs None = block l bs
-next_block l bs (Some b) = behind_void l bs b
+next_block l bs (Some b) = after_void l bs b
 
 abbrev pub next_set : Option Block → Set
 next_set None = block_set

@@ -193,7 +193,7 @@ declare_word = word (codes "declare")
 abbrev pub before_name : Set
 before_name = BeforeName ∷ []
 
--- declare { any token but GLOBAL } GLOBAL GROUP, but for the attributes and notes behind it
+-- declare { any token but GLOBAL } GLOBAL GROUP, but for the attributes and notes after it
 unfoldable pub declaration : Form Entity
 declaration = do
   w ← located (expect declare_word)
@@ -251,7 +251,7 @@ module_of d s = record {
 abbrev pub rest_of_note_or_metadata : Draft → Form Draft
 rest_of_note_or_metadata d = either (kind kinds.Meta ++ sign 33) (note_rest >>= λ n. ret d) (metadata_rest >>= λ r. ret (added d entities.Nothing))
 
--- Behind a declaration a META begins a note of it, or with `=` a metadata entity
+-- After a declaration a META begins a note of it, or with `=` a metadata entity
 unfoldable pub note_or_metadata : Draft → Form Draft
 note_or_metadata d = meta >>= λ m. rest_of_note_or_metadata d
 
@@ -262,15 +262,15 @@ with_other_entity l d = other_entity l (length d.definitions) >>= λ e. ret (add
 abbrev pub with_entity : Limits → Draft → Form Draft
 with_entity l d = entity l (length d.definitions) >>= λ e. ret (added d e)
 
--- Behind a declaration: an attribute or a note of it, or the next entity
-unfoldable pub behind_declaration : Limits → Draft → Form Draft
-behind_declaration l d =
+-- After a declaration: an attribute or a note of it, or the next entity
+unfoldable pub after_declaration : Limits → Draft → Form Draft
+after_declaration l d =
     either (kind kinds.Meta) (note_or_metadata d)
     (either (attribute_set barred.Nothing) (attribute barred.Nothing >>= λ a. ret d)
     (with_other_entity l d))
 
 abbrev pub next_entity : Limits → Draft → Bool → Form Draft
-next_entity l d true = behind_declaration l d
+next_entity l d true = after_declaration l d
 next_entity l d false = with_entity l d
 
 abbrev pub next_set : Bool → Set

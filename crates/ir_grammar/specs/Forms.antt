@@ -29,7 +29,7 @@ Outcome A = Result (A × Left) Fault
 
 pub record Form (A : Type 0) : Type 1 where
   pub reads : Names → List Piece → A → Names → Type 0
-  -- the last of these tokens exceeds this limit, behind the others
+  -- the last of these tokens exceeds this limit, after the others
   pub exceeds : Names → List Piece → Which → Type 0
   pub parse : Left → Outcome A
 
@@ -103,7 +103,7 @@ abbrev pub Rounds : {X Y : Type 0} → (X → Form X) → (X → Form Y) → ℕ
 Rounds go stop zero x s u y s' = (stop x).reads s u y s'
 Rounds go stop (suc n) x s u y s' = (x1 : _) × (s1 : Names) × (u1 u2 : List Piece) × (u ≡ u1 ++ u2) × (go x).reads s u1 x1 s1 × Rounds go stop n x1 s1 u2 y s'
 
--- behind so many rounds the next one or the end exceeds a limit
+-- after so many rounds the next one or the end exceeds a limit
 abbrev pub RoundsExceed : {X Y : Type 0} → (X → Form X) → (X → Form Y) → ℕ → X → Names → List Piece → Which → Type 0
 RoundsExceed go stop zero x s u w = (go x).exceeds s u w ⊎ (stop x).exceeds s u w
 RoundsExceed go stop (suc n) x s u w = (x1 : _) × (s1 : Names) × (u1 u2 : List Piece) × (u ≡ u1 ++ u2) × (go x).reads s u1 x1 s1 × RoundsExceed go stop n x1 s1 u2 w

@@ -16,7 +16,7 @@ sign_awaits a as' c =
     else (if nat_eq c 123 then Some (125 ∷ a ∷ as')
     else (if nat_eq c 41 || (nat_eq c 93 || nat_eq c 125) then None else Some (a ∷ as')))))
 
--- the signs that are awaited behind one more token, the next one first; none where the token cannot stand there
+-- the signs that are awaited after one more token, the next one first; none where the token cannot stand there
 abbrev pub token_awaits : ℕ → List ℕ → Token → Option (List ℕ)
 token_awaits a as' (tokens.Sign c) = sign_awaits a as' c
 token_awaits a as' tokens.End = None
@@ -55,7 +55,7 @@ inside_at ts [] b s = Ok (b, record { names = s; tokens = ts })
 inside_at [] (a ∷ as') b s = Err (record { at = []; why = Refused })
 inside_at (t ∷ ts) (a ∷ as') b s = fed (awaits a as' t) (λ next. inside_at ts next (b || is_noinline t) s) (Err (record { at = t ∷ ts; why = Refused }))
 
--- what stands behind the sign that opens, with the sign that closes; its value is whether the word `noinline` is in it
+-- what stands after the sign that opens, with the sign that closes; its value is whether the word `noinline` is in it
 abbrev pub inside : ℕ → Form Bool
 inside a = record {
   reads = λ s u x s'. Inside u (a ∷ []) × (x ≡ sees_noinline false u) × (s ≡ s');

@@ -45,25 +45,25 @@ local name s = (record { 0 = (numbered name s.locals).0 }, record s { locals = (
 abbrev pub greater : ℕ → ℕ → ℕ
 greater a b = if nat_le a b then b else a
 
--- a decimal digit behind a number
+-- a decimal digit after a number
 abbrev pub appended : ℕ → ℕ → ℕ
 appended n digit = n * 10 + (digit - 48)
 
--- the number that decimal digits write behind a number
-abbrev pub written_behind : ℕ → List ℕ → ℕ
-written_behind n [] = n
-written_behind n (digit ∷ digits) = written_behind (appended n digit) digits
+-- the number that decimal digits write after a number
+abbrev pub written_after : ℕ → List ℕ → ℕ
+written_after n [] = n
+written_after n (digit ∷ digits) = written_after (appended n digit) digits
 
 abbrev pub written : List ℕ → ℕ
-written digits = written_behind 0 digits
+written digits = written_after 0 digits
 
--- the number of what has no name, behind a definition of this name
-unfoldable pub next_behind : List ℕ → ℕ → ℕ
-next_behind name n = if are_digits name && nat_le (length name) 30 then greater n (written name + 1) else n
+-- the number of what has no name, after a definition of this name
+unfoldable pub next_after : List ℕ → ℕ → ℕ
+next_after name n = if are_digits name && nat_le (length name) 30 then greater n (written name + 1) else n
 
 -- a parameter, a register or a label is defined
 unfoldable pub define : List ℕ → Names → LocalId × Names
-define name s = local name (record s { next = next_behind name s.next })
+define name s = local name (record s { next = next_after name s.next })
 
 unfoldable pub define_next : Names → LocalId × Names
 define_next s = define (decimal s.next) s

@@ -4,12 +4,7 @@ use Rattle.std.specs.Str.{bytes_eq}
 use Rattle.oi_base.specs.declared.ids.Place.{Place}
 use Rattle.ir_lexer.specs.declared.table.Token.{Token}
 use Rattle.ir_lexer.specs.declared.table.Token.TheVariants as tokens
-use Rattle.ir_core.specs.declared.flat.BinOp.{BinOp}
-use Rattle.ir_core.specs.declared.flat.BinOp.TheVariants as bins
-use Rattle.ir_core.specs.declared.flat.Cmp.{Cmp}
-use Rattle.ir_core.specs.declared.flat.Cmp.TheVariants as orders
-use Rattle.ir_core.specs.declared.flat.CastOp.{CastOp}
-use Rattle.ir_core.specs.declared.flat.CastOp.TheVariants as casts
+pub use Rattle.ir_core.specs.Opcodes.{bin_words, order_words, cast_words}
 use Rattle.ir_core.specs.declared.ty.IrType.{IrType, Void}
 use Rattle.ir_core.specs.declared.module.SymId.{SymId}
 use Rattle.ir_core.specs.declared.constant.TypedCount.{TypedCount}
@@ -31,9 +26,9 @@ use Rattle.ir_grammar.specs.Values.{gep_word, gep_flags, value, typed}
 use Rattle.ir_grammar.specs.Groups.{group}
 use Rattle.ir_grammar.specs.Attributes.{note, notes, no_marks, attribute_list, argument}
 
--- ---- items and then notes, each behind a comma
+-- ---- items and then notes, each after a comma
 
--- what stands behind the comma: a note, or an item, where no note came before; with whether one came
+-- what stands after the comma: a note, or an item, where no note came before; with whether one came
 abbrev pub listing : {A : Type 0} → Form A → Bool → List A → Form (Bool × List A)
 listing f true xs = note >>= λ n. ret (true, xs)
 listing f false xs = either (kind kinds.Meta) (note >>= λ n. ret (true, xs)) (f >>= λ a. ret (false, xs ++ a ∷ []))
@@ -57,7 +52,7 @@ align_then_notes l = expect align_word >>= λ w. number l.length >>= λ n. notes
 unfoldable pub note_then_notes : Form Unit
 note_then_notes = note >>= λ e. notes
 
--- behind the comma
+-- after the comma
 unfoldable pub align_or_notes : Limits → Form (Option ℕ)
 align_or_notes l = either align_word (align_then_notes l) (note_then_notes >>= λ e. ret None)
 
@@ -65,11 +60,6 @@ unfoldable pub align_and_notes : Limits → Form (Option ℕ)
 align_and_notes l = either (sign 44) (expect (sign 44) >>= λ c. align_or_notes l) (ret None)
 
 -- ---- operations with a result
-
-abbrev pub bin_words : List (List ℕ × BinOp)
-bin_words = (codes "add", bins.Add) ∷ (codes "sub", bins.Sub) ∷ (codes "mul", bins.Mul) ∷ (codes "udiv", bins.Udiv) ∷ (codes "sdiv", bins.Sdiv)
-    ∷ (codes "urem", bins.Urem) ∷ (codes "srem", bins.Srem) ∷ (codes "shl", bins.Shl) ∷ (codes "lshr", bins.Lshr) ∷ (codes "ashr", bins.Ashr)
-    ∷ (codes "and", bins.And) ∷ (codes "or", bins.Or) ∷ (codes "xor", bins.Xor) ∷ []
 
 abbrev pub bin_flag : Set
 bin_flag = IsWord (codes "nuw") ∷ IsWord (codes "nsw") ∷ IsWord (codes "exact") ∷ IsWord (codes "disjoint") ∷ []
@@ -85,10 +75,6 @@ bin l = do
   b ← value l
   n ← notes
   ret (ops.Bin o t a b)
-
-abbrev pub order_words : List (List ℕ × Cmp)
-order_words = (codes "eq", orders.Eq) ∷ (codes "ne", orders.Ne) ∷ (codes "ugt", orders.Ugt) ∷ (codes "uge", orders.Uge) ∷ (codes "ult", orders.Ult)
-    ∷ (codes "ule", orders.Ule) ∷ (codes "sgt", orders.Sgt) ∷ (codes "sge", orders.Sge) ∷ (codes "slt", orders.Slt) ∷ (codes "sle", orders.Sle) ∷ []
 
 abbrev pub icmp_word : Set
 icmp_word = word (codes "icmp")
@@ -127,9 +113,6 @@ select l = do
   n ← notes
   ret (ops.Select a b e)
 
-abbrev pub cast_words : List (List ℕ × CastOp)
-cast_words = (codes "zext", casts.Zext) ∷ (codes "sext", casts.Sext) ∷ (codes "trunc", casts.Trunc) ∷ []
-
 abbrev pub cast_flag : Set
 cast_flag = IsWord (codes "nuw") ∷ IsWord (codes "nsw") ∷ IsWord (codes "nneg") ∷ []
 
@@ -158,11 +141,11 @@ count_and_rest l = do
 abbrev pub align_alone : Limits → Form (Option TypedCount × Option ℕ)
 align_alone l = align_or_notes l >>= λ a. ret (None, a)
 
-abbrev pub behind_alloca : Limits → Form (Option TypedCount × Option ℕ)
-behind_alloca l = either (type_set true) (count_and_rest l) (align_alone l)
+abbrev pub after_alloca : Limits → Form (Option TypedCount × Option ℕ)
+after_alloca l = either (type_set true) (count_and_rest l) (align_alone l)
 
 abbrev pub alloca_rest : Limits → Form (Option TypedCount × Option ℕ)
-alloca_rest l = either (sign 44) (expect (sign 44) >>= λ c. behind_alloca l) (ret (None, None))
+alloca_rest l = either (sign 44) (expect (sign 44) >>= λ c. after_alloca l) (ret (None, None))
 
 unfoldable pub alloca : Limits → Form Op
 alloca l = do
@@ -184,7 +167,7 @@ load l = do
   n ← align_and_notes l
   ret (ops.Load t a n)
 
--- what stands behind `getelementptr` and its flags: type , type value { , type value }
+-- what stands after `getelementptr` and its flags: type , type value { , type value }
 unfoldable pub gep_op_rest : Limits → Form Op
 gep_op_rest l = do
   t ← type_form l
@@ -245,7 +228,7 @@ store l = do
 
 -- ---- items in round brackets, at most so many
 
--- the next item behind the comma
+-- the next item after the comma
 abbrev pub next_item : {A : Type 0} → Limits → Form A → List A → Form A
 next_item l f xs = choose (is_past l.params (length xs + 1)) (over limits.Params) f
 
@@ -340,7 +323,7 @@ abbrev pub result_of : IrType → Names → Option LocalId × Names
 result_of Void s = (None, s)
 result_of t s = (Some (define_next s).0, (define_next s).1)
 
--- a call, behind its GLOBAL
+-- a call, after its GLOBAL
 unfoldable pub called : Limits → IrType → List ℕ → Form Line
 called l t n = do
   f ← act (symbol n)
@@ -352,7 +335,7 @@ called l t n = do
 abbrev pub keep_types : ℕ → Names → Unit {0} × Names
 keep_types k s = (tt, record s { types = take k s.types })
 
--- a call for lifetimes, behind its GLOBAL: it is skipped, and so are the type names of its type
+-- a call for lifetimes, after its GLOBAL: it is skipped, and so are the type names of its type
 unfoldable pub lifetime : ℕ → Form Line
 lifetime k = group 40 41 >>= λ g. act (keep_types k) >>= λ u. ret None
 

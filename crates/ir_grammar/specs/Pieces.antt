@@ -22,12 +22,12 @@ abbrev pub piece_place : Piece → Place
 piece_place (Is s) = s.place
 piece_place (Bad e) = lexical_place e
 
--- the end or a lexical fault, behind which a text has no piece
+-- the end or a lexical fault, after which a text has no piece
 abbrev pub is_last : Piece → Bool
 is_last (Is s) = is_end s.token
 is_last (Bad e) = true
 
--- the piece that the lexer gives, and those behind it
+-- the piece that the lexer gives, and those after it
 abbrev pub then_more : Result ((Token × Place) × Unread) LexFault → (Unread → List Piece) → List Piece
 then_more (Ok t) more = Is (record { token = t.0.0; place = t.0.1 }) ∷ (if is_end t.0.0 then [] else more t.1)
 then_more (Err e) more = Bad e ∷ []

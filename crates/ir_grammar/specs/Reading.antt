@@ -34,13 +34,13 @@ IsReadableWithinLimits m = (bytes : List ℕ) × (read : modules.Module) × All 
 abbrev pub IsFront : List Piece → Type 0
 IsFront u = (n : ℕ) × (v : List Piece) × (m : modules.Module) × ReadsPieces (unlimited n) (u ++ v) m
 
--- a text is these pieces, this one and these behind it: an accepted text begins with those before it, and none goes on
+-- a text is these pieces, this one and these after it: an accepted text begins with those before it, and none goes on
 -- with it
 abbrev pub FirstRefused : List ℕ → List Piece → Piece → List Piece → Type 0
 FirstRefused bytes u t rest = (pieces bytes ≡ u ++ t ∷ rest) × IsFront u × (IsFront (u ++ t ∷ []) → ⊥)
 
--- A text is these pieces, this token and the pieces behind it: behind those before it the token exceeds this limit.
--- It is the `define` of one function too many; what stands behind the last parameter or argument that may be and a
+-- A text is these pieces, this token and the pieces after it: after those before it the token exceeds this limit.
+-- It is the `define` of one function too many; what stands after the last parameter or argument that may be and a
 -- comma; the bracket that opens one level of a type or an initialiser too many; or an integer out of range that is a
 -- length, a count or an alignment.
 abbrev pub ExceedsAt : List ℕ → Which → List Piece → Spot → List Piece → Type 0

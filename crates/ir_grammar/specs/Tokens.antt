@@ -3,6 +3,7 @@ use Rattle.std.specs.Prelude.{ℕ, ℤ, pos, negsuc, Bool, true, false, nat_lt, 
 use Rattle.std.specs.Str.{bytes_eq}
 use Rattle.ir_lexer.specs.declared.table.Token.{Token}
 use Rattle.ir_lexer.specs.declared.table.Token.TheVariants as tokens
+use Rattle.ir_core.specs.declared.limits.TheConstants.{MOST_FUNCTIONS, MOST_LENGTH, MOST_LEVELS, MOST_PARAMS}
 use Rattle.ir_grammar.specs.declared.kinds.Kind.{Kind}
 use Rattle.ir_grammar.specs.declared.which.Which.{Which}
 use Rattle.ir_grammar.specs.declared.which.Which.TheVariants as limits
@@ -19,7 +20,7 @@ pub record Limits : Type 0 where
   pub levels : ℕ
 
 abbrev pub stated : Limits
-stated = record { functions = Some 4096; params = Some 8; length = Some 4294967295; levels = 64 }
+stated = record { functions = Some MOST_FUNCTIONS; params = Some MOST_PARAMS; length = Some MOST_LENGTH; levels = MOST_LEVELS }
 
 -- without limits, where so many levels are enough
 abbrev pub unlimited : ℕ → Limits
@@ -118,14 +119,14 @@ over w = token (λ t. Over w)
 abbrev pub skip : Set → Form Unit → Form Unit
 skip z f = rounds (λ x. z) (λ x. f) (λ x. ret tt) tt
 
--- what a form gives any number of times, behind what is there
+-- what a form gives any number of times, after what is there
 abbrev pub many : {A : Type 0} → Set → Form A → List A → Form (List A)
 many z f = rounds (λ xs. z) (λ xs. f >>= λ x. ret (xs ++ x ∷ [])) (λ xs. ret xs)
 
 -- , item
-abbrev pub behind_comma : {A : Type 0} → Form A → Form A
-behind_comma f = expect (sign 44) >>= λ c. f
+abbrev pub after_comma : {A : Type 0} → Form A → Form A
+after_comma f = expect (sign 44) >>= λ c. f
 
 -- [ item { , item } ], where an item begins so
 abbrev pub listed : {A : Type 0} → Set → Form A → Form (List A)
-listed z f = either z (f >>= λ a. many (sign 44) (behind_comma f) (a ∷ [])) (ret [])
+listed z f = either z (f >>= λ a. many (sign 44) (after_comma f) (a ∷ [])) (ret [])

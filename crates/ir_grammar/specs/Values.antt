@@ -15,7 +15,7 @@ use Rattle.ir_grammar.specs.declared.which.Which.TheVariants as limits
 use Rattle.ir_grammar.specs.Names.{symbol, local}
 use Rattle.ir_grammar.specs.Sets.{Set, IsWord}
 use Rattle.ir_grammar.specs.Forms.{Form, act, ret, token, Verdict, Refuses, Over, ◌>>=◌, either}
-use Rattle.ir_grammar.specs.Tokens.{Limits, expect, sign, word, kind, look, words_of, one_word, text, int, skip, many, behind_comma, listed}
+use Rattle.ir_grammar.specs.Tokens.{Limits, expect, sign, word, kind, look, words_of, one_word, text, int, skip, many, after_comma, listed}
 use Rattle.ir_grammar.specs.Types.{type_in, type_form, type_set}
 
 abbrev pub const_words : List (List ℕ × Const)
@@ -38,7 +38,7 @@ global = text kinds.Global >>= λ n. act (symbol n)
 abbrev pub index : Option ℕ → ℕ → Form TypedCount
 index most n = type_in true most n >>= λ t. int >>= λ i. ret (record { ty = t; count = i })
 
--- what stands behind `getelementptr` and its flags in a constant: `(` type `,` ptr GLOBAL { `,` type INT } `)`
+-- what stands after `getelementptr` and its flags in a constant: `(` type `,` ptr GLOBAL { `,` type INT } `)`
 unfoldable pub gep_rest : Option ℕ → ℕ → Form Const
 gep_rest most n = do
   open1 ← expect (sign 40)
@@ -46,7 +46,7 @@ gep_rest most n = do
   c ← expect (sign 44)
   p ← expect (word (codes "ptr"))
   g ← global
-  is ← many (sign 44) (behind_comma (index most n)) []
+  is ← many (sign 44) (after_comma (index most n)) []
   close1 ← expect (sign 41)
   ret (consts.Gep t g is)
 

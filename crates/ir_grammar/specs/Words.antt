@@ -1,7 +1,9 @@
 -- Words that the accepted text leaves out by name, and words that are no attributes.
-use Rattle.std.specs.Prelude.{ℕ, Bool, false, not, ◌||◌, ◌&&◌, ◌==◌, List, [], ◌∷◌, ◌++◌, codes}
+use Rattle.std.specs.Prelude.{ℕ, Bool, false, not, ◌||◌, ◌&&◌, ◌==◌, List, [], ◌∷◌, ◌++◌, map, codes}
 use Rattle.ir_lexer.specs.declared.table.Token.{Token}
 use Rattle.ir_lexer.specs.declared.table.Token.TheVariants as tokens
+use Rattle.ir_core.specs.declared.opcodes.TheConstants.{BIN_OPS, CAST_OPS}
+use Rattle.ir_core.specs.Opcodes.{bin_text, cast_text}
 use Rattle.ir_grammar.specs.declared.kinds.Barred.{Barred}
 use Rattle.ir_grammar.specs.declared.kinds.Barred.TheVariants as barred
 use Rattle.ir_grammar.specs.Sets.{are_digits, is_integer_type, is_debug, among}
@@ -59,7 +61,9 @@ value_words = codes "true" ∷ codes "false" ∷ codes "null" ∷ codes "undef" 
 
 -- words that begin an instruction or a terminator
 abbrev pub code_words : List (List ℕ)
-code_words = codes "add" ∷ codes "sub" ∷ codes "mul" ∷ codes "udiv" ∷ codes "sdiv" ∷ codes "urem" ∷ codes "srem" ∷ codes "shl" ∷ codes "lshr" ∷ codes "ashr" ∷ codes "and" ∷ codes "or" ∷ codes "xor" ∷ codes "icmp" ∷ codes "select" ∷ codes "zext" ∷ codes "sext" ∷ codes "trunc" ∷ codes "alloca" ∷ codes "load" ∷ codes "store" ∷ codes "getelementptr" ∷ codes "phi" ∷ codes "tail" ∷ codes "notail" ∷ codes "call" ∷ codes "ret" ∷ codes "br" ∷ codes "switch" ∷ codes "unreachable" ∷ []
+code_words =
+    map bin_text BIN_OPS ++ codes "icmp" ∷ codes "select" ∷ [] ++ map cast_text CAST_OPS
+    ++ codes "alloca" ∷ codes "load" ∷ codes "store" ∷ codes "getelementptr" ∷ codes "phi" ∷ codes "tail" ∷ codes "notail" ∷ codes "call" ∷ codes "ret" ∷ codes "br" ∷ codes "switch" ∷ codes "unreachable" ∷ []
 
 abbrev pub barred_words : Barred → List (List ℕ)
 barred_words barred.Nothing = []

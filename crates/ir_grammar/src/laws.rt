@@ -49,7 +49,7 @@ pub fn a_limit_is_exceeded_there()
     ensures front { (bytes : List ℕ) (w : Which) (u : List Piece) (t : Spot) (rest : List Piece) → ExceedsAt bytes w u t rest → IsFront u }
 {}
 
-/// A fault stands at a piece of the text, and never behind the last one.
+/// A fault stands at a piece of the text, and never after the last one.
 pub fn a_fault_stands_at_a_piece()
     ensures { (bytes : List ℕ) (d : Fault) → read bytes ≡ Err d → (u rest : List Piece) × (t : Piece) × (d.at ≡ t ∷ rest) × (pieces bytes ≡ u ++ t ∷ rest) }
 {}

@@ -24,7 +24,7 @@ pub struct Marks {
     pub groups: Texts,
 }
 
-/// A definition, and the groups that are named behind its parameters: it is not inlined where one of them says so.
+/// A definition, and the groups that are named after its parameters: it is not inlined where one of them says so.
 #[derive(Drop)]
 pub struct Definition {
     pub func: Func,
@@ -33,7 +33,7 @@ pub struct Definition {
 
 pub type Definitions = Items<Definition>;
 
-/// The parts of a block. It is `bare` where it ends in `ret void`, behind which a value may stand.
+/// The parts of a block. It is `bare` where it ends in `ret void`, after which a value may stand.
 #[derive(Drop)]
 pub struct Lines {
     pub label: LocalId,
@@ -76,11 +76,11 @@ pub struct Draft {
     pub globals: Globals,
     pub definitions: Definitions,
     pub declared: Declared,
-    /// The last entity is a declaration, behind which attributes and notes may stand.
+    /// The last entity is a declaration, after which attributes and notes may stand.
     pub declares: bool,
 }
 
-/// What stands before an argument's value: an integer behind a word is the word's, or the value.
+/// What stands before an argument's value: an integer after a word is the word's, or the value.
 #[derive(Clone, Copy)]
 pub enum Stand {
     Free,

@@ -5,7 +5,7 @@ pub enum Which {
     Functions,
     /// 4,096 call sites, passed at the place of the next one.
     Sites,
-    /// Eight parameters of a function or arguments of a call, passed at what stands behind the eighth and a comma.
+    /// Eight parameters of a function or arguments of a call, passed at what stands after the eighth and a comma.
     Params,
     /// 64 levels of types and initialisers, passed at the bracket that opens the next one.
     Nesting,

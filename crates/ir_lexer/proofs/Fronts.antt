@@ -22,7 +22,7 @@ run_front bs = ap (λ n. take n bs) (length-take-le (prefix_len is_run_byte bs) 
 pub run_within : (bs : List ℕ) → length (run_of bs) ≤ length bs
 run_within bs = rw (length-take-le (prefix_len is_run_byte bs) bs (prefix_len-le-length is_run_byte bs)) (prefix_len-le-length is_run_byte bs)
 
--- a run with no run byte directly behind it is the run at the front
+-- a run with no run byte directly after it is the run at the front
 whole_more : (b : ℕ) (run rest : List ℕ) → is_run_byte b ≡ true → run_of rest ≡ run → run_of (b ∷ rest) ≡ b ∷ run
 whole_more b run rest h e = rw (take_while-cons is_run_byte b rest, h) (ap (λ (x : List ℕ). b ∷ x) e)
 
@@ -38,12 +38,12 @@ abbrev pub begins_run : List ℕ → Bool
 begins_run [] = false
 begins_run (c ∷ cs) = is_run_byte c
 
-pub run_is : (run behind : List ℕ) → list_all is_run_byte run ≡ true → begins_run behind ≡ false → run_of (run ++ behind) ≡ run
+pub run_is : (run after : List ℕ) → list_all is_run_byte run ≡ true → begins_run after ≡ false → run_of (run ++ after) ≡ run
 run_is [] [] h free = refl
 run_is [] (c ∷ cs) h free = rw (take_while-cons is_run_byte c cs, free) refl
-run_is (b ∷ run) behind h free = let k = both (is_run_byte b) (list_all is_run_byte run) h in whole_more b run (run ++ behind) k.0 (run_is run behind k.1 free)
+run_is (b ∷ run) after h free = let k = both (is_run_byte b) (list_all is_run_byte run) h in whole_more b run (run ++ after) k.0 (run_is run after k.1 free)
 
--- the byte directly behind a front
+-- the byte directly after a front
 pub front_more : (bs : List ℕ) (n b : ℕ) → begins_with b (drop n bs) ≡ true → (take (n + 1) bs ≡ take n bs ++ b ∷ []) × (n + 1 ≤ length bs)
 front_more [] zero b h = absurd (false≢true h)
 front_more [] (suc n) b h = absurd (false≢true h)

@@ -10,7 +10,7 @@ goes_on inside text i total lt skipped so_far =
     let here : gap_len inside (drop i text) ≡ 1 + gap_len (is_in_comment inside (get_or text i 0)) (drop (i + 1) text) = rw (drop_more text i 0 lt, skipped) refl in
     omega arith
 
--- the first byte behind it
+-- the first byte after it
 pub stops : (inside : Bool) (text : List ℕ) (i total : ℕ) → i < length text → is_skipped inside (get_or text i 0) ≡ false → i + gap_len inside (drop i text) ≡ total → i ≡ total
 unfolding gap_len
 stops inside text i total lt kept so_far =

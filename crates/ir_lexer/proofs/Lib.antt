@@ -1,4 +1,4 @@
-pub mod Behind
+pub mod After
 pub mod Fronts
 pub mod Gaps
 pub mod Numbers

@@ -10,7 +10,7 @@ use Rattle.ir_lexer.specs.declared.table.Token.TheVariants.{Int, Label, Local, G
 use Rattle.ir_lexer.specs.Alphabet.{is_run_byte, is_sign, begins_with, run_of, without_minus, is_int}
 use Rattle.ir_lexer.specs.Places.{next_place}
 use Rattle.ir_lexer.specs.Strings.{string_up_to, string_at, is_name}
-use Rattle.ir_lexer.specs.Table.{Found, and_then, is_c, int_token, cstring_token, run_token, string_token, name_behind, token_at}
+use Rattle.ir_lexer.specs.Table.{Found, and_then, is_c, int_token, cstring_token, run_token, string_token, name_after, token_at}
 use Rattle.ir_lexer.specs.Lexing.{is_end}
 
 -- a token that is not the end, and takes a byte or more
@@ -38,9 +38,9 @@ chained_name : {A : Type 0} (r : Result A LexFault) (f : A → Result (List ℕ 
 chained_name (Ok a) f h = h a
 chained_name (Err e) f h = tt
 
-behind_name : (r : Result (List ℕ × ℕ) LexFault) (f : (List ℕ × ℕ) → Found) → Named r → ((a : List ℕ × ℕ) → 0 < a.1 → Solid (f a)) → Solid (and_then r f)
-behind_name (Ok a) f n h = h a n
-behind_name (Err e) f n h = tt
+after_name : (r : Result (List ℕ × ℕ) LexFault) (f : (List ℕ × ℕ) → Found) → Named r → ((a : List ℕ × ℕ) → 0 < a.1 → Solid (f a)) → Solid (and_then r f)
+after_name (Ok a) f n h = h a n
+after_name (Err e) f n h = tt
 
 solid_int : (p : Place) (run : List ℕ) → 0 < length run → Solid (int_token p run)
 unfolding int_token
@@ -53,9 +53,9 @@ solid_cstring p bs = chained (string_at (next_place p 99) (drop 1 bs)) (λ s. Ok
 solid_run : (p : Place) (bs : List ℕ) → 0 < length (run_of bs) → Solid (run_token p bs)
 unfolding run_token
 solid_run p bs some =
-    let run = run_of bs in let behind = drop (length run) bs in
-    choice (begins_with 58 behind) _ _ (refl, omega arith)
-    (choice (is_c run && begins_with 34 behind) _ _ (solid_cstring p bs)
+    let run = run_of bs in let after = drop (length run) bs in
+    choice (begins_with 58 after) _ _ (refl, omega arith)
+    (choice (is_c run && begins_with 34 after) _ _ (solid_cstring p bs)
     (choice (is_int run) _ _ (solid_int p run some) (refl, some)))
 
 sized : (p : Place) (bs : List ℕ) (o : Option ℕ) → Named (string_up_to p bs o)
@@ -65,11 +65,11 @@ sized p bs (Some n) = omega arith
 solid_string : (p : Place) (bs : List ℕ) → Solid (string_token p bs)
 unfolding string_token
 solid_string p bs =
-    behind_name (string_at p bs) _ (sized p bs (position (λ b. b == 34) (drop 1 bs))) (λ s some.
+    after_name (string_at p bs) _ (sized p bs (position (λ b. b == 34) (drop 1 bs))) (λ s some.
     choice (begins_with 58 (drop s.1 bs)) _ _ (choice (is_name s.0) (Ok (Label s.0, s.1 + 1)) (Err (BadByte p 34)) (refl, omega arith) tt) (refl, some))
 
-named : (p : Place) (b : ℕ) (bs : List ℕ) → Named (name_behind p b bs)
-unfolding name_behind
+named : (p : Place) (b : ℕ) (bs : List ℕ) → Named (name_after p b bs)
+unfolding name_after
 named p b bs =
     either_name (begins_with 34 bs) _ _
     (chained_name (string_at (next_place p b) bs) _ (λ s. either_name (is_name s.0) (Ok (s.0, s.1 + 1)) (Err (BadByte p b)) (omega arith) tt))
@@ -86,8 +86,8 @@ solid p b bs =
     let run = run_of bs in
     chosen (is_run_byte b) _ _ (λ h. solid_run p (b ∷ bs) (begins b bs h))
     (choice (b == 34) _ _ (solid_string p (b ∷ bs))
-    (choice (b == 37) _ _ (behind_name (name_behind p b bs) (λ n. Ok (Local n.0, n.1)) (named p b bs) (λ n some. (refl, some)))
-    (choice (b == 64) _ _ (behind_name (name_behind p b bs) (λ n. Ok (Global n.0, n.1)) (named p b bs) (λ n some. (refl, some)))
+    (choice (b == 37) _ _ (after_name (name_after p b bs) (λ n. Ok (Local n.0, n.1)) (named p b bs) (λ n some. (refl, some)))
+    (choice (b == 64) _ _ (after_name (name_after p b bs) (λ n. Ok (Global n.0, n.1)) (named p b bs) (λ n some. (refl, some)))
     (choice ((b == 33) && nat_lt 0 (length run)) _ _ (refl, omega arith)
     (choice ((b == 35) && nat_lt 0 (length run)) _ _ (refl, omega arith)
     (choice (is_sign b) (Ok (Sign b, 1)) (Err (BadByte p b)) (refl, omega arith) tt))))))

@@ -13,7 +13,7 @@ use Rattle.ir_lexer.specs.declared.table.Token.TheVariants.{Int, Word, Label, Lo
 use Rattle.ir_lexer.specs.Alphabet.{is_run_byte, is_sign, begins_with, run_of, without_minus, is_int}
 use Rattle.ir_lexer.specs.Places.{next_place}
 use Rattle.ir_lexer.specs.Strings.{unescaped, string_up_to, string_at, is_name}
-use Rattle.ir_lexer.specs.Table.{Found, and_then, is_c, int_token, cstring_token, run_token, string_token, name_behind, token_at}
+use Rattle.ir_lexer.specs.Table.{Found, and_then, is_c, int_token, cstring_token, run_token, string_token, name_after, token_at}
 use Rattle.ir_lexer.specs.Spellings.{IsRun, Quotes, Names, Spells}
 use Rattle.ir_lexer.proofs.Fronts.{both, begins, all_run, run_front, run_within, front_more}
 
@@ -139,9 +139,9 @@ good_cstring p bs h =
 good_run : (p : Place) (bs : List ℕ) → IsRun (run_of bs) → Good bs (run_token p bs)
 unfolding run_token
 good_run p bs run =
-    let behind = drop (length (run_of bs)) bs in
-    chosen (Good bs) (begins_with 58 behind) (Ok (Label (run_of bs), length (run_of bs) + 1)) _ (λ colon. good_label bs run colon) (λ _.
-    chosen (Good bs) (is_c (run_of bs) && begins_with 34 behind) (cstring_token p bs) _ (λ c. good_cstring p bs c) (λ _.
+    let after = drop (length (run_of bs)) bs in
+    chosen (Good bs) (begins_with 58 after) (Ok (Label (run_of bs), length (run_of bs) + 1)) _ (λ colon. good_label bs run colon) (λ _.
+    chosen (Good bs) (is_c (run_of bs) && begins_with 34 after) (cstring_token p bs) _ (λ c. good_cstring p bs c) (λ _.
     chosen (Good bs) (is_int (run_of bs)) (int_token p (run_of bs)) (Ok (Word (run_of bs), length (run_of bs))) (λ int. good_int p bs run int) (λ word. with_run bs (Word (run_of bs)) (run, word, refl))))
 
 good_string : (p : Place) (bs : List ℕ) → begins_with 34 bs ≡ true → Good bs (string_token p bs)
@@ -164,8 +164,8 @@ no_name b bs e = tt
 one_before : (b n : ℕ) (bs : List ℕ) → take (n + 1) (b ∷ bs) ≡ b ∷ take n bs
 one_before b n bs = rw add-one refl
 
-good_name : (p : Place) (b : ℕ) (bs : List ℕ) → GoodName b bs (name_behind p b bs)
-unfolding name_behind
+good_name : (p : Place) (b : ℕ) (bs : List ℕ) → GoodName b bs (name_after p b bs)
+unfolding name_after
 good_name p b bs =
     chosen (GoodName b bs) (begins_with 34 bs) _ _
     (λ quote. chained (GoodName b bs) (string_at (next_place p b) bs) (λ s. if is_name s.0 then Ok (s.0, s.1 + 1) else Err (BadByte p b)) (no_name b bs) (λ s e.
@@ -194,10 +194,10 @@ good p (b ∷ bs) =
     let run = run_of bs in
     chosen (Good (b ∷ bs)) (is_run_byte b) (run_token p (b ∷ bs)) _ (λ h. good_run p (b ∷ bs) (run_good (b ∷ bs) (begins b bs h))) (λ _.
     chosen (Good (b ∷ bs)) (b == 34) (string_token p (b ∷ bs)) _ (λ h. good_string p (b ∷ bs) h) (λ _.
-    chosen (Good (b ∷ bs)) (b == 37) (and_then (name_behind p b bs) (λ n. Ok (Local n.0, n.1))) _
-    (λ h. chained (Good (b ∷ bs)) (name_behind p b bs) (λ n. Ok (Local n.0, n.1)) (no_token (b ∷ bs)) (λ n e. with_name 37 b bs n (eqb-true b 37 h) (subst (GoodName b bs) e (good_name p b bs)))) (λ _.
-    chosen (Good (b ∷ bs)) (b == 64) (and_then (name_behind p b bs) (λ n. Ok (Global n.0, n.1))) _
-    (λ h. chained (Good (b ∷ bs)) (name_behind p b bs) (λ n. Ok (Global n.0, n.1)) (no_token (b ∷ bs)) (λ n e. with_name 64 b bs n (eqb-true b 64 h) (subst (GoodName b bs) e (good_name p b bs)))) (λ _.
+    chosen (Good (b ∷ bs)) (b == 37) (and_then (name_after p b bs) (λ n. Ok (Local n.0, n.1))) _
+    (λ h. chained (Good (b ∷ bs)) (name_after p b bs) (λ n. Ok (Local n.0, n.1)) (no_token (b ∷ bs)) (λ n e. with_name 37 b bs n (eqb-true b 37 h) (subst (GoodName b bs) e (good_name p b bs)))) (λ _.
+    chosen (Good (b ∷ bs)) (b == 64) (and_then (name_after p b bs) (λ n. Ok (Global n.0, n.1))) _
+    (λ h. chained (Good (b ∷ bs)) (name_after p b bs) (λ n. Ok (Global n.0, n.1)) (no_token (b ∷ bs)) (λ n e. with_name 64 b bs n (eqb-true b 64 h) (subst (GoodName b bs) e (good_name p b bs)))) (λ _.
     chosen (Good (b ∷ bs)) ((b == 33) && nat_lt 0 (length run)) (Ok (Meta run, length run + 1)) _
     (λ h. let k = both (b == 33) (nat_lt 0 (length run)) h in good_mark b 33 bs (eqb-true b 33 k.0) (less 0 (length run) k.1)) (λ _.
     chosen (Good (b ∷ bs)) ((b == 35) && nat_lt 0 (length run)) (Ok (Hash run, length run + 1)) _

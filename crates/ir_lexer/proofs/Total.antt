@@ -13,7 +13,7 @@ use Rattle.ir_lexer.proofs.Solid.{Solid, solid}
 abbrev Read : Type 0
 Read = (Token × Place) × Unread
 
--- a token that is read: the end, where nothing is left, or a token with fewer bytes behind it
+-- a token that is read: the end, where nothing is left, or a token with fewer bytes after it
 abbrev Moves : Unread → Read → Type 0
 Moves u n = ((n ≡ ((tokens.End, u.place), u)) × (u.bytes ≡ [])) ⊎ ((is_end n.0.0 ≡ false) × (length n.1.bytes < length u.bytes))
 
@@ -37,7 +37,7 @@ moved : (u : Unread) (n : Read) → next_token u ≡ Ok n → Moves (skip (gap_l
 unfolding next_token
 moved u n e = let v = skip (gap_len false u.bytes) u in at_front v.place v.bytes n e
 
--- behind the end nothing is left, and the end comes again
+-- after the end nothing is left, and the end comes again
 again : (p : Place) → next_token (record { bytes = []; place = p }) ≡ Ok ((tokens.End, p), record { bytes = []; place = p })
 unfolding next_token gap_len token_at
 again p = refl

@@ -5,7 +5,7 @@ use Rattle.std.specs.Prelude.{unwrap_or}
 use Rattle.std.specs.Char.{is_ascii_hexdigit, digit_value}
 use Rattle.ir_lexer.specs.Strings.{escape, first_said, unescaped}
 
--- what the first said byte and the bytes behind it say
+-- what the first said byte and the bytes after it say
 abbrev all_said : Option (ℕ × List ℕ) → List ℕ
 all_said None = []
 all_said (Some p) = p.0 ∷ unescaped p.1
@@ -20,11 +20,11 @@ two true h n x y ys = refl
 two false true n x y ys = refl
 two false false n x y ys = refl
 
-behind_backslash : (bs : List ℕ) → unescaped (92 ∷ bs) ≡ all_said (Some (unwrap_or (escape bs) (92, bs)))
+after_backslash : (bs : List ℕ) → unescaped (92 ∷ bs) ≡ all_said (Some (unwrap_or (escape bs) (92, bs)))
 unfolding unescaped
-behind_backslash [] = refl
-behind_backslash (x ∷ []) = one (x == 92) x
-behind_backslash (x ∷ y ∷ ys) = two (x == 92) (is_ascii_hexdigit x && is_ascii_hexdigit y) (16 * digit_value x + digit_value y) x y ys
+after_backslash [] = refl
+after_backslash (x ∷ []) = one (x == 92) x
+after_backslash (x ∷ y ∷ ys) = two (x == 92) (is_ascii_hexdigit x && is_ascii_hexdigit y) (16 * digit_value x + digit_value y) x y ys
 
 -- any other byte says itself
 itself : (a : ℕ) (bs : List ℕ) → (a == 92) ≡ false → unescaped (a ∷ bs) ≡ a ∷ unescaped bs
@@ -34,7 +34,7 @@ itself a (x ∷ []) e = rw e refl
 itself a (x ∷ y ∷ ys) e = rw e refl
 
 first : (a : ℕ) (bs : List ℕ) (t : Bool) → (a == 92) ≡ t → unescaped (a ∷ bs) ≡ all_said (if t then Some (unwrap_or (escape bs) (92, bs)) else Some (a, bs))
-first a bs true e = rw (eqb-true a 92 e) (behind_backslash bs)
+first a bs true e = rw (eqb-true a 92 e) (after_backslash bs)
 first a bs false e = itself a bs e
 
 -- what the whole says begins with the first said byte
@@ -55,7 +55,7 @@ ends raw said total e so_far =
     let here : unescaped raw ≡ [] = by_first raw ∙ ap all_said e in
     sym (ap (λ (x : List ℕ). said ++ x) here ∙ append-nil said) ∙ so_far
 
--- how many bytes stand behind the first said byte
+-- how many bytes stand after the first said byte
 abbrev left : Option (ℕ × List ℕ) → ℕ
 left None = 0
 left (Some p) = length p.1
@@ -69,13 +69,13 @@ left_two true h n x y ys = omega arith
 left_two false true n x y ys = omega arith
 left_two false false n x y ys = omega arith
 
-left_behind : (bs : List ℕ) → left (Some (unwrap_or (escape bs) (92, bs))) ≤ length bs
-left_behind [] = omega arith
-left_behind (x ∷ []) = left_one (x == 92) x
-left_behind (x ∷ y ∷ ys) = left_two (x == 92) (is_ascii_hexdigit x && is_ascii_hexdigit y) (16 * digit_value x + digit_value y) x y ys
+left_after : (bs : List ℕ) → left (Some (unwrap_or (escape bs) (92, bs))) ≤ length bs
+left_after [] = omega arith
+left_after (x ∷ []) = left_one (x == 92) x
+left_after (x ∷ y ∷ ys) = left_two (x == 92) (is_ascii_hexdigit x && is_ascii_hexdigit y) (16 * digit_value x + digit_value y) x y ys
 
 left_first : (a : ℕ) (bs : List ℕ) (t : Bool) → left (if t then Some (unwrap_or (escape bs) (92, bs)) else Some (a, bs)) ≤ length bs
-left_first a bs true = left_behind bs
+left_first a bs true = left_after bs
 left_first a bs false = omega arith
 
 left_all : (raw : List ℕ) → 0 < length raw → left (first_said raw) < length raw
@@ -86,7 +86,7 @@ some_left : (raw : List ℕ) (b : ℕ) (rest : List ℕ) → first_said raw ≡ 
 some_left [] b rest e = cc
 some_left (a ∷ bs) b rest e = omega arith
 
--- and the bytes behind are fewer
+-- and the bytes after are fewer
 pub shorter : (raw : List ℕ) (b : ℕ) (rest : List ℕ) → first_said raw ≡ Some (b, rest) → length rest < length raw
 shorter raw b rest e =
     let k = left_all raw (some_left raw b rest e) in

@@ -22,11 +22,11 @@ unread bs p = record { bytes = bs; place = p }
 abbrev pub whole : List ℕ → Unread
 whole bs = unread bs first_place
 
--- what is left behind n bytes
+-- what is left after n bytes
 abbrev pub skip : ℕ → Unread → Unread
 skip n u = unread (drop n u.bytes) (place_after u.place (take n u.bytes))
 
--- is a comment open behind the byte, where one was open before it or not? A comment runs from `;` to the end of its line
+-- is a comment open after the byte, where one was open before it or not? A comment runs from `;` to the end of its line
 abbrev pub is_in_comment : Bool → ℕ → Bool
 is_in_comment inside b = (inside || (b == 59)) && not (b == 10)
 
@@ -39,12 +39,12 @@ unfoldable pub gap_len : Bool → List ℕ → ℕ
 gap_len inside [] = 0
 gap_len inside (b ∷ bs) = if is_skipped inside b then 1 + gap_len (is_in_comment inside b) bs else 0
 
--- the token at the front, its place, and what is left behind it
+-- the token at the front, its place, and what is left after it
 abbrev pub taken : Unread → Found → Result ((Token × Place) × Unread) LexFault
 taken u (Ok t) = Ok ((t.0, u.place), skip t.1 u)
 taken u (Err e) = Err e
 
--- the next token with its place, and what is left behind it; or the fault that stands in its place
+-- the next token with its place, and what is left after it; or the fault that stands in its place
 unfoldable pub next_token : Unread → Result ((Token × Place) × Unread) LexFault
 next_token u = let here = skip (gap_len false u.bytes) u in taken here (token_at here.place here.bytes)
 
@@ -53,11 +53,11 @@ abbrev pub is_end : Token → Bool
 is_end tokens.End = true
 is_end t = false
 
--- behind the end nothing is left, and behind any other token fewer bytes than before it
+-- after the end nothing is left, and after any other token fewer bytes than before it
 abbrev pub LeavesFewer : Token → Unread → Unread → Type 0
 LeavesFewer t u v = MatchBool (is_end t) (v.bytes ≡ []) (length v.bytes < length u.bytes)
 
--- these are the next tokens of u, none of them the end, and v is what is left behind them
+-- these are the next tokens of u, none of them the end, and v is what is left after them
 abbrev pub Passes : Unread → List Spot → Unread → Type 0
 Passes u [] v = u ≡ v
 Passes u (s ∷ ss) v = (w : Unread) × (next_token u ≡ Ok ((s.token, s.place), w)) × (is_end s.token ≡ false) × Passes w ss v
@@ -67,7 +67,7 @@ abbrev pub HasTokens : Unread → List Spot → Type 0
 HasTokens u ts = (front : List Spot) × (v : Unread) × (p : Place) × (w : Unread)
     × (ts ≡ front ++ record { token = tokens.End; place = p } ∷ []) × Passes u front v × (next_token v ≡ Ok ((tokens.End, p), w))
 
--- u has this fault, its first one, behind these tokens
+-- u has this fault, its first one, after these tokens
 abbrev pub HasFault : Unread → List Spot → LexFault → Type 0
 HasFault u front e = (v : Unread) × Passes u front v × (next_token v ≡ Err e)
 

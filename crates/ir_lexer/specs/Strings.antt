@@ -17,7 +17,7 @@ unescaped (a ∷ b ∷ c ∷ bs) =
     else (if (a == 92) && (is_ascii_hexdigit b && is_ascii_hexdigit c) then (16 * digit_value b + digit_value c) ∷ unescaped bs
     else a ∷ unescaped (b ∷ c ∷ bs))
 
--- the byte that an escape says, from what stands behind its backslash, and what stands behind the escape; none where
+-- the byte that an escape says, from what stands after its backslash, and what stands after the escape; none where
 -- the backslash stands for itself
 abbrev pub escape : List ℕ → Option (ℕ × List ℕ)
 escape [] = None
@@ -27,13 +27,13 @@ escape (a ∷ b ∷ bs) =
     else (if is_ascii_hexdigit a && is_ascii_hexdigit b then Some (16 * digit_value a + digit_value b, bs)
     else None)
 
--- the first byte that is said, and what stands behind the bytes that say it
+-- the first byte that is said, and what stands after the bytes that say it
 abbrev pub first_said : List ℕ → Option (ℕ × List ℕ)
 first_said [] = None
 first_said (a ∷ bs) = if a == 92 then Some (unwrap_or (escape bs) (92, bs)) else Some (a, bs)
 
 -- a text that begins with a quote at the place: what its string says, and how many bytes the string takes with its
--- quotes, where the next quote behind the first is the n-th byte from 0
+-- quotes, where the next quote after the first is the n-th byte from 0
 abbrev pub string_up_to : Place → List ℕ → Option ℕ → Result (List ℕ × ℕ) LexFault
 string_up_to p bs None = Err (OpenString p)
 string_up_to p bs (Some n) = Ok (unescaped (take n (drop 1 bs)), n + 2)

@@ -40,9 +40,9 @@ cstring_token p bs = and_then (string_at (next_place p 99) (drop 1 bs)) (λ s. O
 -- LABEL: a run with `:` directly after it; or CSTRING, INT, or WORD, which is any other run
 unfoldable pub run_token : Place → List ℕ → Found
 run_token p bs =
-    let run = run_of bs in let behind = drop (length run) bs in
-    if begins_with 58 behind then Ok (Label run, length run + 1)
-    else (if is_c run && begins_with 34 behind then cstring_token p bs
+    let run = run_of bs in let after = drop (length run) bs in
+    if begins_with 58 after then Ok (Label run, length run + 1)
+    else (if is_c run && begins_with 34 after then cstring_token p bs
     else (if is_int run then int_token p run
     else Ok (Word run, length run)))
 
@@ -52,9 +52,9 @@ string_token p bs = and_then (string_at p bs) (λ s.
     if begins_with 58 (drop s.1 bs) then (if is_name s.0 then Ok (Label s.0, s.1 + 1) else Err (BadByte p 34))
     else Ok (Str s.0, s.1))
 
--- a run or a string as a name behind the byte b, and how many bytes the two take
-unfoldable pub name_behind : Place → ℕ → List ℕ → Result (List ℕ × ℕ) LexFault
-name_behind p b bs =
+-- a run or a string as a name after the byte b, and how many bytes the two take
+unfoldable pub name_after : Place → ℕ → List ℕ → Result (List ℕ × ℕ) LexFault
+name_after p b bs =
     if begins_with 34 bs then and_then (string_at (next_place p b) bs) (λ s. if is_name s.0 then Ok (s.0, s.1 + 1) else Err (BadByte p b))
     else (if nat_lt 0 (length (run_of bs)) then Ok (run_of bs, length (run_of bs) + 1)
     else Err (BadByte p b))
@@ -66,8 +66,8 @@ token_at p (b ∷ bs) =
     let run = run_of bs in
     if is_run_byte b then run_token p (b ∷ bs)
     else (if b == 34 then string_token p (b ∷ bs)
-    else (if b == 37 then and_then (name_behind p b bs) (λ n. Ok (Local n.0, n.1))
-    else (if b == 64 then and_then (name_behind p b bs) (λ n. Ok (Global n.0, n.1))
+    else (if b == 37 then and_then (name_after p b bs) (λ n. Ok (Local n.0, n.1))
+    else (if b == 64 then and_then (name_after p b bs) (λ n. Ok (Global n.0, n.1))
     else (if (b == 33) && nat_lt 0 (length run) then Ok (Meta run, length run + 1)
     else (if (b == 35) && nat_lt 0 (length run) then Ok (Hash run, length run + 1)
     else (if is_sign b then Ok (Sign b, 1)

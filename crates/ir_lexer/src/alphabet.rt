@@ -49,7 +49,7 @@ pub fn begins_with(b: u8, text: &[u8]) -> bool
     }
 }
 
-/// How many bytes the longest run at the front takes.
+/// How many bytes the longest run at the start takes.
 fn run_len(text: &[u8]) -> usize
     ensures { result ≡ prefix_len is_run_byte text.now }
 {
@@ -61,7 +61,7 @@ fn run_len(text: &[u8]) -> usize
     text.len()
 }
 
-/// The longest run at the front, which may be empty.
+/// The longest run at the start, which may be empty.
 pub fn run_of(text: &[u8]) -> &[u8]
     ensures run { result.now ≡ run_of text.now }
     ensures within { length result.now ≤ length text.now }

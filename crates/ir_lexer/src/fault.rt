@@ -2,7 +2,6 @@ ghost use Rattle.std.specs.Prelude.{◌≡◌};
 ghost use Rattle.ir_lexer.specs.declared.fault.LexFault.TheVariants.{NoMemory};
 
 use oi_base::Place;
-use std::alloc::{AllocError, AllocFailed};
 use thiserror::Error;
 
 /// Why a text has no next token.
@@ -21,22 +20,6 @@ pub enum LexFault {
     /// Memory ran out.
     #[error("out of memory")]
     NoMemory,
-}
-
-impl From<AllocError> for LexFault {
-    ghost from_gives = { λ _ e. e ≡ NoMemory };
-
-    fn from(_error: AllocError) -> LexFault {
-        LexFault::NoMemory
-    }
-}
-
-impl<T: Drop> From<AllocFailed<T>> for LexFault {
-    ghost from_gives = { λ _ e. e ≡ NoMemory };
-
-    fn from(_error: AllocFailed<T>) -> LexFault {
-        LexFault::NoMemory
-    }
 }
 
 impl From<oi_base::NoMemory> for LexFault {

@@ -22,19 +22,19 @@ pub fn lexing_is_a_function()
 
 /// The tokens are those of the table. What is taken is what separates tokens and then a form of the token; a separator
 /// or a comment before a token changes its place alone; and a form of a token is read as that token where the byte
-/// behind it, if there is one, is no byte of a run, no `:` and no quote.
-#[tactic(auto, using(crate::proofs::Behind::in_parts, crate::proofs::Behind::past_separator, crate::proofs::Behind::past_comment, crate::proofs::Behind::read_here))]
+/// after it, if there is one, is no byte of a run, no `:` and no quote.
+#[tactic(auto, using(crate::proofs::After::in_parts, crate::proofs::After::past_separator, crate::proofs::After::past_comment, crate::proofs::After::read_here))]
 pub fn tokens_are_those_of_the_table()
     ensures form { (u v : Unread) (t : Token) (p : Place) → next_token u ≡ Ok ((t, p), v) →
         (gap bs : List ℕ) × (u.bytes ≡ gap ++ (bs ++ v.bytes)) × Spells t bs ×
         (p ≡ place_after u.place gap) × (v.place ≡ place_after p bs) }
-    ensures read { (t : Token) (bs behind : List ℕ) (p : Place) →
-        Spells t bs → is_end t ≡ false → continues behind ≡ false →
-        next_token (unread (bs ++ behind) p) ≡ Ok ((t, p), unread behind (place_after p bs)) }
-    ensures separator { (b : ℕ) (behind : List ℕ) (p : Place) → is_separator b ≡ true →
-        next_token (unread (b ∷ behind) p) ≡ next_token (unread behind (next_place p b)) }
-    ensures comment { (body behind : List ℕ) (p : Place) →
-        list_any (λ b. b == 10) body ≡ false → (behind ≡ []) ⊎ (begins_with 10 behind ≡ true) →
-        next_token (unread (59 ∷ (body ++ behind)) p) ≡
-        next_token (unread behind (place_after p (59 ∷ body))) }
+    ensures read { (t : Token) (bs after : List ℕ) (p : Place) →
+        Spells t bs → is_end t ≡ false → continues after ≡ false →
+        next_token (unread (bs ++ after) p) ≡ Ok ((t, p), unread after (place_after p bs)) }
+    ensures separator { (b : ℕ) (after : List ℕ) (p : Place) → is_separator b ≡ true →
+        next_token (unread (b ∷ after) p) ≡ next_token (unread after (next_place p b)) }
+    ensures comment { (body after : List ℕ) (p : Place) →
+        list_any (λ b. b == 10) body ≡ false → (after ≡ []) ⊎ (begins_with 10 after ≡ true) →
+        next_token (unread (59 ∷ (body ++ after)) p) ≡
+        next_token (unread after (place_after p (59 ∷ body))) }
 {}

@@ -10,7 +10,7 @@ use oi_base::Place;
 use std::alloc::Global;
 use std::marker::Model;
 
-/// Is a comment open behind the byte, where one was or was not open before it?
+/// Is a comment open after the byte, where one was or was not open before it?
 fn is_in_comment(inside: bool, b: u8) -> bool
     ensures { result ≡ is_in_comment inside b }
 {
@@ -24,7 +24,7 @@ fn is_skipped(inside: bool, b: u8) -> bool
     inside || b == b';' || is_separator(b)
 }
 
-/// How many bytes at the front are separators or in comments.
+/// How many bytes at the start are separators or in comments.
 #[tactic(auto, using(crate::proofs::Gaps::goes_on, crate::proofs::Gaps::stops, crate::proofs::Gaps::ends))]
 fn gap_len(text: &[u8]) -> usize
     ensures gap { result ≡ gap_len false text.now }

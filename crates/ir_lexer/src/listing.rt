@@ -4,7 +4,7 @@ ghost use Rattle.ir_lexer.specs.Lexing.{whole, is_end, HasTokens, HasFirstFault}
 use crate::fault::LexFault;
 use crate::lexing::Lexer;
 use crate::table::{Spot, Token};
-use oi_base::Items;
+use oi_base::{Items, NoMemory};
 use std::alloc::Global;
 
 /// Is the token the end of the text?
@@ -26,7 +26,7 @@ pub fn tokens(alloc: Global, bytes: &[u8]) -> Result<Items<Spot>, LexFault>
     loop {
         let (token, place) = lexer.next(alloc)?;
         let last = is_end(&token);
-        spots.push(Spot { token, place })?;
+        spots.push(Spot { token, place }).map_err(|_| NoMemory)?;
         if last {
             return Ok(spots);
         }

@@ -3,18 +3,24 @@ ghost use Rattle.std.specs.Str.Parse.{signed_digits_value};
 ghost use Rattle.ir_lexer.specs.Alphabet.{is_int, run_of, without_minus};
 ghost use Rattle.ir_lexer.specs.Lexing.{is_end};
 ghost use Rattle.ir_lexer.specs.Places.{HasRoom};
-ghost use Rattle.ir_lexer.specs.Table.{Gives, is_c, int_token, cstring_token, run_token, string_token, name_behind, token_at};
+ghost use Rattle.ir_lexer.specs.Table.{Gives, is_c, int_token, cstring_token, run_token, string_token, name_after, token_at};
 
 use crate::alphabet::{begins_with, is_int, is_run_byte, is_sign, run_of, without_minus};
 use crate::fault::LexFault;
 use crate::places::next_place;
 use crate::strings::{is_name, string_at};
 use crate::table::Token;
-use oi_base::{Place, Text};
+use oi_base::{NoMemory, Place, Text};
 use std::alloc::Global;
 
 /// The most digits of an integer.
 const MOST_DIGITS: usize = 30;
+
+fn copy(alloc: Global, bytes: &[u8]) -> Result<Text, NoMemory>
+    ensures { IfOk result (λ text. text ≡ bytes.now) }
+{
+    Ok(Text::from_slice(alloc, bytes)?)
+}
 
 /// The number that a run of at most 30 decimal digits writes, with at most one `-` before them.
 fn int_value(run: &[u8]) -> i128
@@ -51,7 +57,7 @@ fn cstring_token(alloc: Global, text: &[u8], place: Place) -> Result<(Token, usi
     Ok((Token::CStr(said), size + 1))
 }
 
-/// The token of the run at the front.
+/// The token of the run at the start.
 #[tactic(auto, unfolding(crate::specs::Table::run_token))]
 fn run_token(alloc: Global, text: &[u8], place: Place) -> Result<(Token, usize), LexFault>
     requires run { 0 < length (run_of text.now) }
@@ -61,17 +67,17 @@ fn run_token(alloc: Global, text: &[u8], place: Place) -> Result<(Token, usize),
     ensures progress { IfOk result (λ t. IsFalse (is_end t.0) × (0 < t.1)) }
 {
     let run = run_of(text);
-    let behind = &text[run.len()..];
-    if begins_with(b':', behind) {
-        return Ok((Token::Label(Text::from_slice(alloc, run)?), run.len() + 1));
+    let after = &text[run.len()..];
+    if begins_with(b':', after) {
+        return Ok((Token::Label(copy(alloc, run)?), run.len() + 1));
     }
-    if is_c(run) && begins_with(b'"', behind) {
+    if is_c(run) && begins_with(b'"', after) {
         return cstring_token(alloc, text, place);
     }
     if is_int(run) {
         return int_token(run, place);
     }
-    Ok((Token::Word(Text::from_slice(alloc, run)?), run.len()))
+    Ok((Token::Word(copy(alloc, run)?), run.len()))
 }
 
 /// Is this the run `c`?
@@ -84,7 +90,7 @@ fn is_c(run: &[u8]) -> bool
     }
 }
 
-/// The token of the string at the front of a text that begins with a quote.
+/// The token of the string at the start of a text that begins with a quote.
 #[tactic(auto, unfolding(crate::specs::Table::string_token))]
 fn string_token(alloc: Global, text: &[u8], place: Place) -> Result<(Token, usize), LexFault>
     requires { 0 < length text.now }
@@ -102,16 +108,16 @@ fn string_token(alloc: Global, text: &[u8], place: Place) -> Result<(Token, usiz
     Ok((Token::Label(said), size + 1))
 }
 
-/// The name directly behind the byte `first`, which stands at the place, and how many bytes the two take.
-#[tactic(auto, unfolding(crate::specs::Table::name_behind))]
-fn name_behind(
+/// The name directly after the byte `first`, which stands at the place, and how many bytes the two take.
+#[tactic(auto, unfolding(crate::specs::Table::name_after))]
+fn name_after(
     alloc: Global,
     text: &[u8],
     place: Place,
     first: u8,
 ) -> Result<(Text, usize), LexFault>
     requires room { HasRoom place (length text.now + 1) }
-    ensures name { Gives result (name_behind place first text.now) }
+    ensures name { Gives result (name_after place first text.now) }
     ensures within { IfOk result (λ n. n.1 ≤ length text.now + 1) }
     ensures progress { IfOk result (λ n. 0 < n.1) }
 {
@@ -126,10 +132,10 @@ fn name_behind(
     if run.is_empty() {
         return Err(LexFault::BadByte(place, first));
     }
-    Ok((Text::from_slice(alloc, run)?, run.len() + 1))
+    Ok((copy(alloc, run)?, run.len() + 1))
 }
 
-/// The token at the front of a text that begins with no separator and no comment, and how many bytes it takes. The
+/// The token at the start of a text that begins with no separator and no comment, and how many bytes it takes. The
 /// place is that of the text's first byte.
 #[tactic(auto, unfolding(crate::specs::Table::token_at))]
 pub fn token_at(alloc: Global, text: &[u8], place: Place) -> Result<(Token, usize), LexFault>
@@ -138,26 +144,26 @@ pub fn token_at(alloc: Global, text: &[u8], place: Place) -> Result<(Token, usiz
     ensures within { IfOk result (λ t. t.1 ≤ length text.now) }
     ensures progress { IfOk result (λ t. MatchBool (is_end t.0) (text.now ≡ []) (0 < t.1)) }
 {
-    let [first, behind @ ..] = text else {
+    let [first, after @ ..] = text else {
         return Ok((Token::End, 0));
     };
     let first = *first;
     if is_run_byte(first) {
         return run_token(alloc, text, place);
     }
-    let run = run_of(behind);
+    let run = run_of(after);
     match first {
         b'"' => string_token(alloc, text, place),
         b'%' => {
-            let (name, size) = name_behind(alloc, behind, place, first)?;
+            let (name, size) = name_after(alloc, after, place, first)?;
             Ok((Token::Local(name), size))
         }
         b'@' => {
-            let (name, size) = name_behind(alloc, behind, place, first)?;
+            let (name, size) = name_after(alloc, after, place, first)?;
             Ok((Token::Global(name), size))
         }
-        b'!' if !run.is_empty() => Ok((Token::Meta(Text::from_slice(alloc, run)?), run.len() + 1)),
-        b'#' if !run.is_empty() => Ok((Token::Hash(Text::from_slice(alloc, run)?), run.len() + 1)),
+        b'!' if !run.is_empty() => Ok((Token::Meta(copy(alloc, run)?), run.len() + 1)),
+        b'#' if !run.is_empty() => Ok((Token::Hash(copy(alloc, run)?), run.len() + 1)),
         _ if is_sign(first) => Ok((Token::Sign(first), 1)),
         _ => Err(LexFault::BadByte(place, first)),
     }

@@ -17,7 +17,7 @@ fn hex_value(digit: u8) -> u8
     char::from(digit).to_digit(16).unwrap() as u8
 }
 
-/// The byte that an escape says, from what stands behind its backslash, and what stands behind the escape; `None` where
+/// The byte that an escape says, from what stands after its backslash, and what stands after the escape; `None` where
 /// the backslash stands for itself.
 fn escape(raw: &[u8]) -> Option<(u8, &[u8])>
     ensures { option_map (λ p. (p.0, p.1.now)) result ≡ escape raw.now }
@@ -49,9 +49,9 @@ fn unescaped(alloc: Global, raw: &[u8]) -> Result<Text, NoMemory>
 {
     let mut said = Text::new(alloc);
     let mut rest = raw;
-    while let Some((byte, behind)) = first_said(rest) {
+    while let Some((byte, after)) = first_said(rest) {
         said.push(byte)?;
-        rest = behind;
+        rest = after;
     }
     Ok(said)
 }
@@ -64,7 +64,7 @@ fn next_quote(text: &[u8]) -> Option<usize>
     text.iter().position(|b| *b == b'"')
 }
 
-/// The string at the front of a text that begins with a quote: what it says, and how many bytes it takes with its
+/// The string at the start of a text that begins with a quote: what it says, and how many bytes it takes with its
 /// quotes.
 pub fn string_at(alloc: Global, text: &[u8], place: Place) -> Result<(Text, usize), LexFault>
     requires { 0 < length text.now }

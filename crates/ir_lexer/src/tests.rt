@@ -263,7 +263,7 @@ fn a_mebibyte_of_each(rt: HostRuntime) -> Result<(), Fail> {
     Ok(())
 }
 
-/// The first bytes of a text, 16 bytes that come 65,536 times behind them, the last bytes, and how many tokens it has;
+/// The first bytes of a text, 16 bytes that come 65,536 times after them, the last bytes, and how many tokens it has;
 /// 0 where it has a fault.
 const LONG: [(&str, &str, &str, usize); 12] = [
     ("", "                ", "", 1),

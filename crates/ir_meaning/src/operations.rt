@@ -4,7 +4,7 @@ ghost use Rattle.ir_core.specs.Words.{word_op, word_test};
 ghost use Rattle.ir_meaning.specs.Folding.{folded};
 
 use crate::fold::Folded;
-use crate::signed::{bits, overflows, signed, word};
+use crate::signed::{overflows, signed, word};
 use ir_core::{BinOp, Cmp};
 use oi_base::{Width, mask};
 
@@ -53,7 +53,7 @@ pub fn signed_remainder(w: Width, a: u32, b: u32) -> Folded
 pub fn shifted_left(w: Width, a: u32, b: u32) -> Folded
     ensures { result ≡ folded (word_op BinOp.Shl w a b) }
 {
-    if bits(w) <= b {
+    if w.bits() <= b {
         return Folded::Unfolded;
     }
     Folded::Word(mask(w, a.wrapping_shl(b)))
@@ -63,7 +63,7 @@ pub fn shifted_left(w: Width, a: u32, b: u32) -> Folded
 pub fn shifted_right(w: Width, a: u32, b: u32) -> Folded
     ensures { result ≡ folded (word_op BinOp.Lshr w a b) }
 {
-    if bits(w) <= b {
+    if w.bits() <= b {
         return Folded::Unfolded;
     }
     Folded::Word(a.wrapping_shr(b))
@@ -74,7 +74,7 @@ pub fn shifted_right_with_sign(w: Width, a: u32, b: u32) -> Folded
     requires { a < modulus w }
     ensures { result ≡ folded (word_op BinOp.Ashr w a b) }
 {
-    if bits(w) <= b {
+    if w.bits() <= b {
         return Folded::Unfolded;
     }
     Folded::Word(word(w, signed(w, a).wrapping_shr(b)))

@@ -1,5 +1,5 @@
 ghost use Rattle.std.specs.Prelude.{◌≡◌, ◌<◌, ◌/◌, ◌-◌, nat_eq, ◌&&◌};
-ghost use Rattle.oi_base.specs.Words.{bits, modulus, signed_of, word_of};
+ghost use Rattle.oi_base.specs.Words.{modulus, signed_of, word_of};
 
 use oi_base::{Width, mask, sext};
 
@@ -18,22 +18,10 @@ pub fn word(w: Width, number: i32) -> u32
     mask(w, number.cast_unsigned())
 }
 
-/// The number of bits of a width.
-pub fn bits(w: Width) -> u32
-    ensures { result ≡ bits w }
-{
-    match w {
-        Width::W1 => 1,
-        Width::W8 => 8,
-        Width::W16 => 16,
-        Width::W32 => 32,
-    }
-}
-
 /// Whether the signed quotient of two words is none: that of the least number by -1 is too large by one.
 pub fn overflows(w: Width, a: u32, b: u32) -> bool
     ensures { result ≡ (nat_eq a (modulus w / 2)) && (nat_eq b (modulus w - 1)) }
 {
-    let least = 1 << (bits(w) - 1);
+    let least = 1 << (w.bits() - 1);
     a == least && b == mask(w, u32::MAX)
 }

@@ -3,7 +3,6 @@ ghost use Rattle.oi_base.specs.Words.{modulus};
 ghost use Rattle.ir_core.specs.Formed.{is_cast};
 
 use crate::Folded::{self, Unfolded, Word};
-use crate::signed::bits;
 use crate::{fold_cast, fold_icmp, fold_op};
 use ir_core::{BinOp, CastOp, Cmp};
 use oi_base::Width::{self, W1, W8, W16, W32};
@@ -208,9 +207,9 @@ fn converts(c: CastOp, from: Width, to: Width) -> bool
     ensures { IsTrue result ↔ is_cast c from to }
 {
     match c {
-        CastOp::Zext => bits(from) < bits(to),
-        CastOp::Sext => bits(from) < bits(to),
-        CastOp::Trunc => bits(to) < bits(from),
+        CastOp::Zext => from.bits() < to.bits(),
+        CastOp::Sext => from.bits() < to.bits(),
+        CastOp::Trunc => to.bits() < from.bits(),
     }
 }
 

@@ -8,7 +8,7 @@ use Rattle.ir_grammar.specs.Forms.{Outcome, Refused}
 use Rattle.ir_grammar.specs.Groups.{awaits, is_noinline, fed, inside_at}
 use Rattle.std.specs.Option.{option_map}
 use Rattle.ir_phrases.specs.declared.fault.ReadFault.{ReadFault}
-use Rattle.ir_phrases.specs.declared.grouping.Step.{Step}
+use Rattle.ir_phrases.specs.declared.groups.Step.{Step}
 use Rattle.ir_grammar.specs.Pieces.{Is, Bad}
 use Rattle.ir_grammar.specs.Words.{is_left_out}
 use Rattle.ir_phrases.specs.Gives.{rest_of, refused, left_out_if, Fails}

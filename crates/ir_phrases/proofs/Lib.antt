@@ -1,3 +1,4 @@
+pub mod LevelsRead
 pub mod WordLists
 pub mod Numbered
 pub mod Many

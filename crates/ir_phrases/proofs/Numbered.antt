@@ -68,7 +68,7 @@ pub among_more : (vs : List (List ℕ)) (v name : List ℕ) → among (vs ++ v �
 among_more [] v name = elim (bytes_eq name v) as (λ b. (b || false) ≡ (false || b)) [ true ↦ refl | false ↦ refl ]
 among_more (u ∷ vs) v name = elim (bytes_eq name u) as (λ b. (b || among (vs ++ v ∷ []) name) ≡ ((b || among vs name) || bytes_eq name v)) [ true ↦ refl | false ↦ among_more vs v name ]
 
--- a name that appears is among those behind it
+-- a name that appears is among those after it
 pub among_seen : (vs : List (List ℕ)) (v name : List ℕ) → among (numbered v vs).1 name ≡ (among vs name || bytes_eq name v)
 unfolding numbered
 among_seen vs v name = seen (position (bytes_eq v) vs) refl

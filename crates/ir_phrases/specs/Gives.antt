@@ -13,7 +13,7 @@ use Rattle.ir_grammar.specs.Pieces.{Piece, Is, Bad}
 use Rattle.ir_grammar.specs.Words.{is_left_out}
 use Rattle.ir_grammar.specs.Forms.{Left, Outcome, Fault, Why, Refused, Exceeds, Verdict, Takes, Refuses, place_of}
 
--- the pieces left, where this stands next and these behind it
+-- the pieces left, where this stands next and these after it
 abbrev pub with_ahead : Ahead → List Piece → List Piece
 with_ahead (aheads.Token s) ts = Is s ∷ (if is_end s.token then [] else ts)
 with_ahead (aheads.Fault e) ts = Bad e ∷ []

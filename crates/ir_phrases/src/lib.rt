@@ -3,20 +3,19 @@
 #![tactic(auto)]
 
 mod ahead;
-mod attributing;
+mod attributes;
 mod cursor;
 mod fault;
-mod grouping;
-mod naming;
+mod groups;
+mod names;
 mod reader;
 mod table;
 mod token_kinds;
-mod typing;
-mod valuing;
+mod types;
+mod values;
 mod words;
 
-pub use attributing::no_marks;
+pub use attributes::no_marks;
 pub use fault::ReadFault;
 pub use reader::Reader;
 pub use table::Table;
-pub use typing::MOST_LEVELS;

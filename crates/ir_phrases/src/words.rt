@@ -1,10 +1,14 @@
-ghost use Rattle.std.specs.Prelude.{◌≡◌, ◌||◌};
+ghost use Rattle.std.specs.Prelude.{◌≡◌, ◌||◌, ◌++◌, map};
 ghost use Rattle.std.specs.List.{list_any, list_all};
 ghost use Rattle.std.specs.Char.{is_ascii_digit};
 ghost use Rattle.std.specs.Str.{bytes_eq};
+ghost use Rattle.ir_core.specs.declared.opcodes.TheConstants.{BIN_OPS, CAST_OPS};
+ghost use Rattle.ir_core.specs.Opcodes.{bin_text, cast_text};
+ghost use Rattle.ir_phrases.specs.CodeWords.{choice_words, line_words};
 ghost use Rattle.ir_grammar.specs.Sets.{among, are_digits, is_integer_type, is_debug};
 ghost use Rattle.ir_grammar.specs.Words.{left_out_types, left_out_operations, left_out_control, left_out_shared, left_out_passing, left_out_linkage, left_out_entities, left_out_words, type_words, is_left_out, never, value_words, code_words, barred_words, no_attributes};
 
+use ir_core::{BinOp, CastOp};
 use ir_grammar::Barred;
 use ir_lexer::Token;
 
@@ -280,30 +284,28 @@ fn begins_value(word: &[u8]) -> bool
     )
 }
 
-fn begins_code(word: &[u8]) -> bool
-    ensures { result ≡ among code_words word.now }
+/// Does the word name an operation?
+fn is_operation(word: &[u8]) -> bool
+    ensures { result ≡ among (map bin_text BIN_OPS) word.now }
+{
+    BinOp::from_text(word).is_some()
+}
+
+/// Does the word name a conversion?
+fn is_conversion(word: &[u8]) -> bool
+    ensures { result ≡ among (map cast_text CAST_OPS) word.now }
+{
+    CastOp::from_text(word).is_some()
+}
+
+fn begins_other_code(word: &[u8]) -> bool
+    ensures { result ≡ among (choice_words ++ line_words) word.now }
 {
     is_one_of(
         word,
         &[
-            b"add".as_slice(),
-            b"sub",
-            b"mul",
-            b"udiv",
-            b"sdiv",
-            b"urem",
-            b"srem",
-            b"shl",
-            b"lshr",
-            b"ashr",
-            b"and",
-            b"or",
-            b"xor",
-            b"icmp",
+            b"icmp".as_slice(),
             b"select",
-            b"zext",
-            b"sext",
-            b"trunc",
             b"alloca",
             b"load",
             b"store",
@@ -317,6 +319,16 @@ fn begins_code(word: &[u8]) -> bool
             b"switch",
             b"unreachable",
         ],
+    )
+}
+
+fn begins_code(word: &[u8]) -> bool
+    ensures { result ≡ among code_words word.now }
+{
+    any_of(
+        is_operation(word),
+        is_conversion(word),
+        begins_other_code(word),
     )
 }
 

@@ -9,7 +9,7 @@ use Rattle.ir_core.specs.declared.op.End.{End}
 use Rattle.ir_core.specs.declared.op.End.TheVariants as ends
 use Rattle.ir_core.specs.declared.func.Instr.{Instr}
 use Rattle.ir_core.specs.declared.func.Block.{Block}
-use Rattle.ir_core.specs.Places.{nowhere, unplaced_instr, unplaced_block}
+use Rattle.ir_core.specs.Places.{no_place, unplaced_instr, unplaced_block}
 use Rattle.ir_grammar.specs.declared.kinds.Kind.TheVariants as kinds
 use Rattle.ir_grammar.specs.declared.parts.Lines.{Lines}
 use Rattle.ir_grammar.specs.declared.parts.Progress.{Progress}
@@ -27,16 +27,16 @@ use Rattle.ir_printer.proofs.Reprinting.{Indexed, IndexedTables, assoc_to, assoc
 use Rattle.ir_printer.proofs.Images.{PrintsAs, as_then, as_next, as_done, as_in, as_of, as_cases, as_located, as_line}
 use Rattle.ir_printer.proofs.LocalsReprinted.{prints_label, prints_next_label}
 use Rattle.ir_printer.proofs.EndsReprinted.{prints_end, end_bare}
-use Rattle.ir_printer.proofs.BlocksBehind.{mapped}
+use Rattle.ir_printer.proofs.BlocksAfter.{mapped}
 use Rattle.ir_printer.proofs.PrintedForms.{printed_code, printed_end, printed_block, PrintsCode}
 
 -- the block of these lines, without places
 abbrev pub lines_image : Lines → Block
-lines_image y = unplaced_block (block_of nowhere y)
+lines_image y = unplaced_block (block_of no_place y)
 
 -- the terminator of a block with this label and these instructions
 abbrev pub printed_finish : Limits → LocalId → List Instr → Form Block
-printed_finish l b is = printed_end l >>= λ e. ret (record { place = nowhere; label = b; code = is; end = e; end_place = nowhere })
+printed_finish l b is = printed_end l >>= λ e. ret (record { place = no_place; label = b; code = is; end = e; end_place = no_place })
 
 -- lines and a terminator
 abbrev pub printed_lines : Limits → LocalId → Form Block
@@ -49,7 +49,7 @@ module _ (n : Tables) (i : IndexedTables n) (l : Limits) (code_in : PrintsCode n
   prints_finish : (b : LocalId) (is : List Instr) → PrintsAs true n lines_image (finish l b is) (printed_finish l b (map unplaced_instr is)) ((marks.Line ∷ marks.Label b ∷ []) ++ flat_map instr_marks (map unplaced_instr is)) block_marks
   unfolding finish
   prints_finish b is =
-      as_line marks.Indented refl (as_then (λ (e : End). ret (record { place = nowhere; label = b; code = map unplaced_instr is; end = e; end_place = nowhere })) (as_located (prints_end i l)) (λ (e : Place × Ended).
+      as_line marks.Indented refl (as_then (λ (e : End). ret (record { place = no_place; label = b; code = map unplaced_instr is; end = e; end_place = no_place })) (as_located (prints_end i l)) (λ (e : Place × Ended).
       as_done refl (finish_marks_are marks.Line (marks.Label b) marks.Indented (flat_map instr_marks (map unplaced_instr is)) (end_marks e.1.0))))
 
   prints_lines : (b : LocalId) → PrintsAs true n lines_image (lines l b []) (printed_lines l b) (marks.Line ∷ marks.Label b ∷ []) block_marks
@@ -86,7 +86,7 @@ unfolding labelled unlabelled
 block_bare l s u y t (inl r) h = lines_bare l r.6.0 [] r.6.1 r.6.3 y t r.6.6 h
 block_bare l s u y t (inr r) h = lines_bare l r.0 [] r.1 r.3 y t r.6 h
 
--- a block that was read behind these is printed
+-- a block that was read after these is printed
 pub record IsPrintedBlock (n : Tables) (l : Limits) (bs : List Block) (s : Names) (u : List Piece) (p : Progress) (t : Names) : Type 0 where
   pub lines : Lines
   pub place : Place

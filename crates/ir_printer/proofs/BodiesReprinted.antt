@@ -29,7 +29,7 @@ use Rattle.ir_printer.proofs.Images.{PrintsAs, as_next, as_done, as_line, Round,
 use Rattle.ir_printer.proofs.TokensReprinted.{prints_expect, prints_drop}
 use Rattle.ir_printer.proofs.ValuesReprinted.{prints_value}
 use Rattle.ir_printer.proofs.QuietForms.{quiet_notes}
-use Rattle.ir_printer.proofs.BlocksBehind.{noted_value, behind_is}
+use Rattle.ir_printer.proofs.BlocksAfter.{noted_value, after_is}
 use Rattle.ir_printer.proofs.BlocksReprinted.{lines_image, IsPrintedBlock, block_printed}
 use Rattle.ir_printer.proofs.PrintedForms.{is_bare, with_block, printed_block, printed_value, printed_next, printed_blocks, PrintsCode, PrintsBody}
 use Rattle.ir_printer.proofs.RoundsReprinted.{flat_more}
@@ -98,7 +98,7 @@ reprinted_mapped inside n f h s a t ms m = record {
   rereads = λ s2 us front ready are. (let r = m.rereads s2 us front ready are in (r.0, (a, r.0, us, [], sym (append-nil us), r.1, (refl, refl)), r.2, r.3));
 }
 
--- a value, and notes behind it
+-- a value, and notes after it
 abbrev value_alone : Limits → Form Operand
 value_alone l = value l >>= λ v. notes >>= λ e. ret v
 
@@ -157,7 +157,7 @@ module _ (n : Tables) (i : IndexedTables n) (l : Limits) (code_in : PrintsCode n
 
   next_round : (bs : List Block) (o : Option Block) (q : Progress) (s : Names) (u : List Piece) (p1 : Progress) (t : Names) → Stands (record { done = bs; waits = o }) q → (next_block l bs o).reads s u p1 t → One s u q p1 t
   next_round bs None q s u p1 t stands r = block_round bs q s u p1 t stands.0 (block_printed n i l code_in bs s u p1 t r)
-  next_round bs (Some b) q s u p1 t stands r = at (behind_is l bs b s u p1 t r)
+  next_round bs (Some b) q s u p1 t stands r = at (after_is l bs b s u p1 t r)
     where
       at : (block l (bs ++ b ∷ [])).reads s u p1 t ⊎ (noted_value l bs b).reads s u p1 t → One s u q p1 t
       at (inl x) = block_round (bs ++ b ∷ []) q s u p1 t stands.0 (block_printed n i l code_in (bs ++ b ∷ []) s u p1 t x)
@@ -178,27 +178,27 @@ module _ (n : Tables) (i : IndexedTables n) (l : Limits) (code_in : PrintsCode n
       (λ (x : Progress). next_set x.waits) (λ (x : Progress). next_set x.waits) so_far Stands
       (λ x y s u x1 t h r. inr (next_round x.done x.waits y s u x1 t h r)) prints_last p q stands
 
-  abbrev Behind : Names → List Piece → List Block → Names → Type 0
-  Behind s u bs t = (block l [] >>= λ p. more_blocks l p).reads s u bs t
+  abbrev After : Names → List Piece → List Block → Names → Type 0
+  After s u bs t = (block l [] >>= λ p. more_blocks l p).reads s u bs t
 
-  abbrev printed_behind : Form (List Block)
-  printed_behind = printed_block l >>= λ b. printed_blocks l (with_block [] b)
+  abbrev printed_after : Form (List Block)
+  printed_after = printed_block l >>= λ b. printed_blocks l (with_block [] b)
 
-  first_block : (s : Names) (u : List Piece) (bs : List Block) (t : Names) → (r : Behind s u bs t) → IsPrintedBlock n l [] s r.2 r.0 r.1
+  first_block : (s : Names) (u : List Piece) (bs : List Block) (t : Names) → (r : After s u bs t) → IsPrintedBlock n l [] s r.2 r.0 r.1
   first_block s u bs t r = block_printed n i l code_in [] s r.2 r.0 r.1 r.5
 
-  -- the printed state behind the first block
-  behind_first : (s : Names) (u : List Piece) (bs : List Block) (t : Names) → (r : Behind s u bs t) → PrintsAs true n (map unplaced_block) (more_blocks l r.0) (printed_blocks l (with_block [] (lines_image (first_block s u bs t r).lines))) (so_far (with_block [] (lines_image (first_block s u bs t r).lines))) body_marks
-  behind_first s u bs t r =
+  -- the printed state after the first block
+  after_first : (s : Names) (u : List Piece) (bs : List Block) (t : Names) → (r : After s u bs t) → PrintsAs true n (map unplaced_block) (more_blocks l r.0) (printed_blocks l (with_block [] (lines_image (first_block s u bs t r).lines))) (so_far (with_block [] (lines_image (first_block s u bs t r).lines))) body_marks
+  after_first s u bs t r =
       let h = first_block s u bs t r in
       prints_blocks r.0 (with_block [] (lines_image h.lines)) (subst (λ (x : Progress). Stands x (with_block [] (lines_image h.lines))) h.told (grown_stands [] [] h.lines.bare (block_of h.place h.lines) refl h.bare))
 
-  behind_printed : (s : Names) (u : List Piece) (bs : List Block) (t : Names) → (r : Behind s u bs t) → Front true n t → AreSound (r.2 ++ r.3) →
-      (ms : List Mark) × (body_marks (map unplaced_block bs) ≡ (marks.Spaced signs.OpenCurly ∷ []) ++ ms) × IsReprinted true n printed_behind s (map unplaced_block bs) t ms
-  behind_printed s u bs t r front sound =
+  after_printed : (s : Names) (u : List Piece) (bs : List Block) (t : Names) → (r : After s u bs t) → Front true n t → AreSound (r.2 ++ r.3) →
+      (ms : List Mark) × (body_marks (map unplaced_block bs) ≡ (marks.Spaced signs.OpenCurly ∷ []) ++ ms) × IsReprinted true n printed_after s (map unplaced_block bs) t ms
+  after_printed s u bs t r front sound =
       let h = first_block s u bs t r in
       let b = lines_image h.lines in
-      let m = behind_first s u bs t r in
+      let m = after_first s u bs t r in
       let one = h.prints (m.fronts r.1 r.3 bs t r.6 front) (sound_first r.2 r.3 sound) in
       let more = m.prints r.1 r.3 bs t r.6 front (sound_last r.2 r.3 sound) in (
         one.0 ++ more.0,
@@ -206,16 +206,16 @@ module _ (n : Tables) (i : IndexedTables n) (l : Limits) (code_in : PrintsCode n
         reprinted_then true n (printed_block l) (λ (x : Block). printed_blocks l (with_block [] x)) s b r.1 (map unplaced_block bs) t one.0 more.0 one.2 more.2,
       )
 
-  prints_behind : PrintsAs true n (map unplaced_block) (block l [] >>= λ p. more_blocks l p) printed_behind (marks.Spaced signs.OpenCurly ∷ []) body_marks
-  prints_behind = record {
-    indexed = λ s u bs t r x. (behind_first s u bs t r).indexed r.1 r.3 bs t r.6 ((first_block s u bs t r).indexed x);
-    fronts = λ s u bs t r x. (first_block s u bs t r).fronts ((behind_first s u bs t r).fronts r.1 r.3 bs t r.6 x);
-    prints = λ s u bs t r front sound. behind_printed s u bs t r front (subst AreSound r.4 sound);
+  prints_beyond : PrintsAs true n (map unplaced_block) (block l [] >>= λ p. more_blocks l p) printed_after (marks.Spaced signs.OpenCurly ∷ []) body_marks
+  prints_beyond = record {
+    indexed = λ s u bs t r x. (after_first s u bs t r).indexed r.1 r.3 bs t r.6 ((first_block s u bs t r).indexed x);
+    fronts = λ s u bs t r x. (first_block s u bs t r).fronts ((after_first s u bs t r).fronts r.1 r.3 bs t r.6 x);
+    prints = λ s u bs t r front sound. after_printed s u bs t r front (subst AreSound r.4 sound);
   }
 
   prints_whole : PrintsBody n l
   unfolding body
-  prints_whole = as_next (prints_expect (sign 123) (marks.Spaced signs.OpenCurly) (tokens.Sign 123) refl tt refl refl) (λ (o : Unit {0}). prints_behind)
+  prints_whole = as_next (prints_expect (sign 123) (marks.Spaced signs.OpenCurly) (tokens.Sign 123) refl tt refl refl) (λ (o : Unit {0}). prints_beyond)
 
 pub prints_body : {n : Tables} → IndexedTables n → (l : Limits) → PrintsCode n l → PrintsBody n l
 prints_body {n = n} i l code_in = prints_whole n i l code_in

@@ -12,7 +12,7 @@ use Rattle.ir_grammar.specs.declared.kinds.Kind.TheVariants as kinds
 use Rattle.ir_grammar.specs.declared.kinds.Barred.TheVariants as barred
 use Rattle.ir_grammar.specs.declared.parts.Marks.{Marks}
 use Rattle.ir_grammar.specs.Pieces.{Piece}
-use Rattle.ir_grammar.specs.Names.{Names, numbered, symbol, local, next_behind, define, define_next}
+use Rattle.ir_grammar.specs.Names.{Names, numbered, symbol, local, next_after, define, define_next}
 use Rattle.ir_grammar.specs.Forms.{Form, act, ret, token, ◌>>=◌, choose}
 use Rattle.ir_grammar.specs.Tokens.{Limits, expect, text}
 use Rattle.ir_grammar.specs.Types.{type_form}
@@ -118,7 +118,7 @@ unfolding define_next define local
 next_moves s t e g = ap (λ (xs : List (List ℕ)). numbers xs t.next) e ∙ ap (λ (j : ℕ). numbers s.locals j) g
   where
     numbers : List (List ℕ) → ℕ → LocalId × Names
-    numbers xs j = (record { 0 = (numbered (decimal j) xs).0 }, record t { locals = (numbered (decimal j) xs).1; next = next_behind (decimal j) j })
+    numbers xs j = (record { 0 = (numbered (decimal j) xs).0 }, record t { locals = (numbered (decimal j) xs).1; next = next_after (decimal j) j })
 
 next_names : (s : Names) → (define_next s).1 ≡ with_locals (define_next s).1.locals (define_next s).1.next s
 unfolding define_next define local
@@ -211,8 +211,8 @@ callee_read s u name t r e = (r.0, r.1, ap callee_of (global_is r.0.token name r
 nothing_before : (u v w : List Piece) → u ≡ v ++ w → v ≡ [] → u ≡ w
 nothing_before u v w e g = e ∙ ap (λ (x : List Piece). x ++ w) g
 
-nothing_behind : (u v w : List Piece) → u ≡ v ++ w → w ≡ [] → u ≡ v
-nothing_behind u v w e g = e ∙ ap (λ (x : List Piece). v ++ x) g ∙ append-nil v
+nothing_after : (u v w : List Piece) → u ≡ v ++ w → w ≡ [] → u ≡ v
+nothing_after u v w e g = e ∙ ap (λ (x : List Piece). v ++ x) g ∙ append-nil v
 
 quiet_call_head : Quiet call_head
 unfolding call_head
@@ -220,7 +220,7 @@ quiet_call_head =
     quiet_then (quiet_either tail_word (quiet_then (quiet_token _) (λ (t : Unit {0}). quiet_token _)) (quiet_token _)) (λ (w : Unit {0}).
     quiet_then (quiet_attribute_list barred.Values no_marks) (λ (m : Marks). quiet_ret))
 
--- behind a skipped call the names are those before it
+-- after a skipped call the names are those before it
 names_kept : (s1 s2 s3 s4 : Names) (m : ℕ) → types_so_far s1 ≡ (m, s2) → AddsTypes s2 s3 → s3 ≡ s4 → (keep_types m s4).1 ≡ s1
 names_kept s1 s2 s3 s4 m e h g =
     let same : s1 ≡ s2 = ap (λ (y : ℕ × Names). y.1) e in
@@ -247,9 +247,9 @@ reads_call l s u x t h = at (is_lifetime h.6.6.6.0) refl h.6.6.6.6.5
         let told : Some (p.0, ops.Call b.0 r.0 q.0) ≡ d.0 = ap (λ (y : Line × Names). y.0) q.6.1 in
         let argued : q.1 ≡ d.1 = ap (λ (y : Line × Names). y.1) q.6.1 in
         let headed : h.1 ≡ a.1 = ap (λ (y : ℕ × Names). y.1) a.5.1 in
-        let given = nothing_behind p.3 q.2 q.3 q.4 q.6.0 in
+        let given = nothing_after p.3 q.2 q.3 q.4 q.6.0 in
         let inner = nothing_before d.2 r.2 r.3 r.4 r.5.0 ∙ nothing_before r.3 p.2 p.3 p.4 p.5.0 ∙ given in
-        let ended = nothing_behind d.3 e.2 e.3 e.4 e.6.0 in
+        let ended = nothing_after d.3 e.2 e.3 e.4 e.6.0 in
         let typed = nothing_before h.3 a.2 a.3 a.4 a.5.0 in
         let is_call : IsCall l s u b.0 r.0 p.0 q.0 t = record {
           name = c.0;

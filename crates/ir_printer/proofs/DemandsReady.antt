@@ -9,22 +9,22 @@ use Rattle.ir_printer.specs.declared.demands.Known.{Known}
 use Rattle.ir_printer.specs.declared.marks.Mark.{Mark}
 use Rattle.ir_printer.specs.declared.marks.Mark.TheVariants as marks
 use Rattle.ir_printer.specs.Layout.{tables}
-use Rattle.ir_printer.specs.Order.{span_behind, no_demand, demand_behind, demand, known_behind, fits}
+use Rattle.ir_printer.specs.Order.{span_after, no_demand, demand_after, demand, known_beyond, fits}
 use Rattle.ir_printer.specs.Tokens.{AreSpellable}
-use Rattle.ir_printer.specs.Reprints.{Counts, past, behind_mark, behind, IsReady, AreReady}
+use Rattle.ir_printer.specs.Reprints.{Counts, past, after_mark, after, IsReady, AreReady}
 
 -- ---- one name more
 
 -- where a name is known or the next one, no more names are needed than there are
-span_needs : (c x need reach : ℕ) → need ≤ c → x ≤ max c reach → (span_behind (record { need = need; reach = reach }) x).need ≤ c
+span_needs : (c x need reach : ℕ) → need ≤ c → x ≤ max c reach → (span_after (record { need = need; reach = reach }) x).need ≤ c
 span_needs c x need reach h r = at (nat_le x reach) refl
   where
     at : (b : Bool) → nat_le x reach ≡ b → (if b then need else max need x) ≤ c
     at true e = h
     at false e = grind (arith, nat_tests)
 
--- what is needed behind a name was needed before it
-span_needed : (c x need reach : ℕ) → (span_behind (record { need = need; reach = reach }) x).need ≤ c → need ≤ c
+-- what is needed after a name was needed before it
+span_needed : (c x need reach : ℕ) → (span_after (record { need = need; reach = reach }) x).need ≤ c → need ≤ c
 span_needed c x need reach = at (nat_le x reach) refl
   where
     at : (b : Bool) → nat_le x reach ≡ b → (if b then need else max need x) ≤ c → need ≤ c
@@ -32,7 +32,7 @@ span_needed c x need reach = at (nat_le x reach) refl
     at false e h = omega arith
 
 -- where no more names are needed than there are, a name is known or the next one
-span_next : (c x need reach : ℕ) → (span_behind (record { need = need; reach = reach }) x).need ≤ c → x ≤ max c reach
+span_next : (c x need reach : ℕ) → (span_after (record { need = need; reach = reach }) x).need ≤ c → x ≤ max c reach
 span_next c x need reach = at (nat_le x reach) refl
   where
     at : (b : Bool) → nat_le x reach ≡ b → (if b then need else max need x) ≤ c → x ≤ max c reach
@@ -44,11 +44,11 @@ past_reach c x reach = omega arith
 
 -- ---- one mark more
 
--- behind a mark so many local names have come
-abbrev pub local_behind : ℕ → Mark → ℕ
-local_behind l (marks.Local x) = past l x.0
-local_behind l (marks.Label x) = past l x.0
-local_behind l m = l
+-- after a mark so many local names have come
+abbrev pub local_after : ℕ → Mark → ℕ
+local_after l (marks.Local x) = past l x.0
+local_after l (marks.Label x) = past l x.0
+local_after l m = l
 
 -- a mark's local name has come, or is the next one
 abbrev pub IsLocalReady : ℕ → Mark → Type 0
@@ -58,23 +58,23 @@ IsLocalReady l m = Unit {0}
 
 abbrev pub AreLocalsReady : ℕ → List Mark → Type 0
 AreLocalsReady l [] = Unit {0}
-AreLocalsReady l (m ∷ ms) = IsLocalReady l m × AreLocalsReady (local_behind l m) ms
+AreLocalsReady l (m ∷ ms) = IsLocalReady l m × AreLocalsReady (local_after l m) ms
 
 -- as many have come as are needed
 abbrev Meets : Known → Demand → Type 0
 Meets k d = (d.symbols.need ≤ k.symbols) × (d.types.need ≤ k.types)
 
--- how many have come behind marks of this demand
+-- how many have come after marks of this demand
 abbrev so_many : Known → Demand → ℕ → Counts
 so_many k d l = record { symbols = max k.symbols d.symbols.reach; types = max k.types d.types.reach; locals = l }
 
 -- what one more mark does
 record OneMore (k : Known) (d : Demand) (l : ℕ) (m : Mark) : Type 0 where
-  moves : behind_mark (so_many k d l) m ≡ so_many k (demand_behind d m) (local_behind l m)
-  meets : IsReady (so_many k d l) m → Meets k d → Meets k (demand_behind d m)
+  moves : after_mark (so_many k d l) m ≡ so_many k (demand_after d m) (local_after l m)
+  meets : IsReady (so_many k d l) m → Meets k d → Meets k (demand_after d m)
   locals : IsReady (so_many k d l) m → IsLocalReady l m
-  met : Meets k (demand_behind d m) → Meets k d
-  ready : Meets k (demand_behind d m) → IsLocalReady l m → IsReady (so_many k d l) m
+  met : Meets k (demand_after d m) → Meets k d
+  ready : Meets k (demand_after d m) → IsLocalReady l m → IsReady (so_many k d l) m
 
 one_more : (k : Known) (d : Demand) (l : ℕ) (m : Mark) → OneMore k d l m
 one_more k d l (marks.Symbol x) = record {
@@ -104,29 +104,29 @@ one_more k d l (marks.Joined s) = record { moves = refl; meets = λ r h. h; loca
 one_more k d l marks.Line = record { moves = refl; meets = λ r h. h; locals = λ r. tt; met = λ h. h; ready = λ h o. tt }
 one_more k d l marks.Indented = record { moves = refl; meets = λ r h. h; locals = λ r. tt; met = λ h. h; ready = λ h o. tt }
 
--- ---- marks one behind the other
+-- ---- marks one after the other
 
-all_meet : (k : Known) (d : Demand) (l : ℕ) (ms : List Mark) → AreReady (so_many k d l) ms → Meets k d → Meets k (fold demand_behind d ms)
+all_meet : (k : Known) (d : Demand) (l : ℕ) (ms : List Mark) → AreReady (so_many k d l) ms → Meets k d → Meets k (fold demand_after d ms)
 all_meet k d l [] r h = h
-all_meet k d l (m ∷ ms) r h = let o = one_more k d l m in all_meet k (demand_behind d m) (local_behind l m) ms (subst (λ (c : Counts). AreReady c ms) o.moves r.1) (o.meets r.0 h)
+all_meet k d l (m ∷ ms) r h = let o = one_more k d l m in all_meet k (demand_after d m) (local_after l m) ms (subst (λ (c : Counts). AreReady c ms) o.moves r.1) (o.meets r.0 h)
 
 all_locals : (k : Known) (d : Demand) (l : ℕ) (ms : List Mark) → AreReady (so_many k d l) ms → AreLocalsReady l ms
 all_locals k d l [] r = tt
-all_locals k d l (m ∷ ms) r = let o = one_more k d l m in (o.locals r.0, all_locals k (demand_behind d m) (local_behind l m) ms (subst (λ (c : Counts). AreReady c ms) o.moves r.1))
+all_locals k d l (m ∷ ms) r = let o = one_more k d l m in (o.locals r.0, all_locals k (demand_after d m) (local_after l m) ms (subst (λ (c : Counts). AreReady c ms) o.moves r.1))
 
-all_met : (k : Known) (d : Demand) (l : ℕ) (ms : List Mark) → Meets k (fold demand_behind d ms) → Meets k d
+all_met : (k : Known) (d : Demand) (l : ℕ) (ms : List Mark) → Meets k (fold demand_after d ms) → Meets k d
 all_met k d l [] h = h
-all_met k d l (m ∷ ms) h = (one_more k d l m).met (all_met k (demand_behind d m) (local_behind l m) ms h)
+all_met k d l (m ∷ ms) h = (one_more k d l m).met (all_met k (demand_after d m) (local_after l m) ms h)
 
-all_ready : (k : Known) (d : Demand) (l : ℕ) (ms : List Mark) → Meets k (fold demand_behind d ms) → AreLocalsReady l ms → AreReady (so_many k d l) ms
+all_ready : (k : Known) (d : Demand) (l : ℕ) (ms : List Mark) → Meets k (fold demand_after d ms) → AreLocalsReady l ms → AreReady (so_many k d l) ms
 all_ready k d l [] h o = tt
 all_ready k d l (m ∷ ms) h o =
     let one = one_more k d l m in
-    (one.ready (all_met k (demand_behind d m) (local_behind l m) ms h) o.0, subst (λ (c : Counts). AreReady c ms) (sym one.moves) (all_ready k (demand_behind d m) (local_behind l m) ms h o.1))
+    (one.ready (all_met k (demand_after d m) (local_after l m) ms h) o.0, subst (λ (c : Counts). AreReady c ms) (sym one.moves) (all_ready k (demand_after d m) (local_after l m) ms h o.1))
 
-all_behind : (k : Known) (d : Demand) (l : ℕ) (ms : List Mark) → behind (so_many k d l) ms ≡ so_many k (fold demand_behind d ms) (fold local_behind l ms)
-all_behind k d l [] = refl
-all_behind k d l (m ∷ ms) = ap (λ (c : Counts). behind c ms) (one_more k d l m).moves ∙ all_behind k (demand_behind d m) (local_behind l m) ms
+all_after : (k : Known) (d : Demand) (l : ℕ) (ms : List Mark) → after (so_many k d l) ms ≡ so_many k (fold demand_after d ms) (fold local_after l ms)
+all_after k d l [] = refl
+all_after k d l (m ∷ ms) = ap (λ (c : Counts). after c ms) (one_more k d l m).moves ∙ all_after k (demand_after d m) (local_after l m) ms
 
 -- ---- from the begin of a part
 
@@ -162,13 +162,13 @@ fits_ready c ms h o =
     let d = demand ms in
     subst (λ (b : Counts). AreReady b ms) (at_first c) (all_ready (known_of c) no_demand c.locals ms (fitted d.symbols.need c.symbols d.types.need c.types h) o)
 
--- how many symbols and type names have come behind marks
-pub known_behind_marks : (c : Counts) (ms : List Mark) → known_of (behind c ms) ≡ known_behind (known_of c) (demand ms)
-known_behind_marks c ms = ap (λ (b : Counts). known_of (behind b ms)) (sym (at_first c)) ∙ ap known_of (all_behind (known_of c) no_demand c.locals ms)
+-- how many symbols and type names have come after marks
+pub known_beyond_marks : (c : Counts) (ms : List Mark) → known_of (after c ms) ≡ known_beyond (known_of c) (demand ms)
+known_beyond_marks c ms = ap (λ (b : Counts). known_of (after b ms)) (sym (at_first c)) ∙ ap known_of (all_after (known_of c) no_demand c.locals ms)
 
--- how many local names have come behind marks
-pub locals_behind_marks : (c : Counts) (ms : List Mark) → (behind c ms).locals ≡ fold local_behind c.locals ms
-locals_behind_marks c ms = ap (λ (b : Counts). (behind b ms).locals) (sym (at_first c)) ∙ ap (λ (b : Counts). b.locals) (all_behind (known_of c) no_demand c.locals ms)
+-- how many local names have come after marks
+pub locals_after_marks : (c : Counts) (ms : List Mark) → (after c ms).locals ≡ fold local_after c.locals ms
+locals_after_marks c ms = ap (λ (b : Counts). (after b ms).locals) (sym (at_first c)) ∙ ap (λ (b : Counts). b.locals) (all_after (known_of c) no_demand c.locals ms)
 
 -- ---- marks without local names
 

@@ -14,11 +14,11 @@ use Rattle.ir_core.specs.declared.op.End.TheVariants as ends
 use Rattle.ir_grammar.specs.Pieces.{Piece}
 use Rattle.ir_grammar.specs.Names.{Names}
 use Rattle.ir_grammar.specs.Forms.{Form, ret, ◌>>=◌}
-use Rattle.ir_grammar.specs.Tokens.{Limits, expect, sign, word, behind_comma}
+use Rattle.ir_grammar.specs.Tokens.{Limits, expect, sign, word, after_comma}
 use Rattle.ir_grammar.specs.Types.{value_type, type_set}
 use Rattle.ir_grammar.specs.Values.{value}
 use Rattle.ir_grammar.specs.Attributes.{note, notes}
-use Rattle.ir_grammar.specs.Bodies.{label, void_word, Ended, behind_void_word, void_end, value_end, ret_end, label_word, label_end, cond_end, br_end, switch_case, switch_end, unreachable_end, closed_end, end_form}
+use Rattle.ir_grammar.specs.Bodies.{label, void_word, Ended, after_void_word, void_end, value_end, ret_end, label_word, label_end, cond_end, br_end, switch_case, switch_end, unreachable_end, closed_end, end_form}
 use Rattle.ir_printer.specs.declared.words.Word.TheVariants as words
 use Rattle.ir_printer.specs.declared.marks.Sign.TheVariants as signs
 use Rattle.ir_printer.specs.declared.marks.Mark.{Mark}
@@ -32,7 +32,7 @@ use Rattle.ir_printer.proofs.RoundsReprinted.{prints_many}
 use Rattle.ir_printer.proofs.TokensReprinted.{prints_expect, prints_comma}
 use Rattle.ir_printer.proofs.TypesReprinted.{prints_value_type}
 use Rattle.ir_printer.proofs.ValuesReprinted.{prints_value, prints_typed}
-use Rattle.ir_printer.proofs.QuietForms.{quiet_behind, quiet_note, quiet_notes, silent_notes}
+use Rattle.ir_printer.proofs.QuietForms.{quiet_after, quiet_note, quiet_notes, silent_notes}
 use Rattle.ir_printer.proofs.PrintedForms.{printed_ret, printed_end, is_bare}
 use Rattle.ir_printer.proofs.OperationsReprinted.{prints_noted}
 
@@ -99,7 +99,7 @@ prints_ret i l =
     as_next (prints_expect (word (codes "ret")) (marks.Word words.Ret) (tokens.Word (codes "ret")) refl tt refl refl) (λ (w : Unit {0}).
     as_either void_word
     (as_next (prints_expect void_word (marks.Word words.Void) (tokens.Word (codes "void")) refl tt refl refl) (λ (v : Unit {0}).
-    as_cases (sign 44) (as_past (behind_comma note) (quiet_behind quiet_note) (as_past notes quiet_notes (as_done refl refl))) (as_done refl refl)))
+    as_cases (sign 44) (as_past (after_comma note) (quiet_after quiet_note) (as_past notes quiet_notes (as_done refl refl))) (as_done refl refl)))
     (as_next (prints_value_type i l) (λ (t : IrType).
     as_next (prints_value i l) (λ (v : Operand).
     as_past notes quiet_notes (as_done refl (ret_marks_are (marks.Word words.Ret) (type_marks t) (value_marks v)))))))
@@ -159,9 +159,9 @@ printed_end_in l s u e t (inr (inl r)) = inr (inl (closed_in (br_end l) s u e t 
 printed_end_in l s u e t (inr (inr (inl r))) = inr (inr (inl (closed_in (switch_end l) s u e t r (switch_bare l s u e t r))))
 printed_end_in l s u e t (inr (inr (inr r))) = inr (inr (inr (closed_in unreachable_end s u e t r (unreachable_bare s u e t r))))
 
--- ---- where a value may stand behind a terminator, it is `ret void`
+-- ---- where a value may stand after a terminator, it is `ret void`
 
-void_bare : (s : Names) (u : List Piece) (e : Ended) (t : Names) → behind_void_word.reads s u e t → e.1 ≡ true → e.0 ≡ ends.Ret None
+void_bare : (s : Names) (u : List Piece) (e : Ended) (t : Names) → after_void_word.reads s u e t → e.1 ≡ true → e.0 ≡ ends.Ret None
 void_bare s u e t (inl r) h = sym (ap (λ (x : Ended × Names). x.0.0) r.6.6.1)
 void_bare s u e t (inr r) h = sym (ap (λ (x : Ended × Names). x.0.0) r.1)
 

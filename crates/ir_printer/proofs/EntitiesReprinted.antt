@@ -34,11 +34,11 @@ use Rattle.ir_printer.proofs.TokensReprinted.{Quiet, prints_expect, prints_table
 use Rattle.ir_printer.proofs.QuietForms.{quiet_token, quiet_ret, quiet_then, quiet_group, quiet_metadata_rest}
 use Rattle.ir_printer.proofs.TypesReprinted.{prints_type_form}
 use Rattle.ir_printer.proofs.PrintedForms.{line_words, printed_target, printed_type, printed_entity, IsEntityReprinted, printed_of, IsReadEntity}
-use Rattle.ir_printer.proofs.DemandsReady.{known_of, ready_fits, fits_ready, known_behind_marks, spellable_locals}
+use Rattle.ir_printer.proofs.DemandsReady.{known_of, ready_fits, fits_ready, known_beyond_marks, spellable_locals}
 
 -- ---- what a form reads is of a kind
 
--- what is read, and the names behind it, are so
+-- what is read, and the names after it, are so
 abbrev pub Always : {A : Type 0} → (A → Names → Type 0) → Form A → Type 0
 Always {A = A} P f = (s : Names) (u : List Piece) (a : A) (t : Names) → f.reads s u a t → P a t
 
@@ -80,11 +80,11 @@ any_front n locals s front = (front.0, front.1, λ i. absurd cc)
 entity_reprinted : (n : Tables) (l : Limits) (s : Names) (e : Entity) (t : Names) → locals_of e ≡ [] → IsReprinted false (tables n.symbols n.types []) (printed_entity l) s e t (entity_marks n.symbols e) → IsEntityReprinted n l s e t
 entity_reprinted n l s e t o h = record {
   fitting = ready_fits (counts s) ms h.ready;
-  counted = ap known_of h.counted ∙ known_behind_marks (counts s) ms;
+  counted = ap known_of h.counted ∙ known_beyond_marks (counts s) ms;
   spellable = subst (λ (xs : List (List ℕ)). AreSpellable (tables n.symbols n.types xs) ms) (sym o) h.spellable;
   rereads = λ s2 us front fit are.
       (let r = h.rereads s2 us (any_front n [] s2 front) (fits_ready (counts s2) ms fit (spellable_locals n.symbols n.types ms h.spellable (length s2.locals))) (subst (λ (xs : List (List ℕ)). Are us (tokens_of (tables n.symbols n.types xs) ms)) o are) in
-      (r.0, r.1, any_front (tables n.symbols n.types []) n.locals r.0 r.2, ap known_of r.3 ∙ known_behind_marks (counts s2) ms));
+      (r.0, r.1, any_front (tables n.symbols n.types []) n.locals r.0 r.2, ap known_of r.3 ∙ known_beyond_marks (counts s2) ms));
 }
   where
     ms : List Mark

@@ -14,7 +14,7 @@ use Rattle.ir_core.specs.declared.op.LocalId.{LocalId}
 use Rattle.ir_core.specs.declared.func.Block.{Block}
 use Rattle.ir_core.specs.declared.func.Param.{Param}
 use Rattle.ir_core.specs.declared.func.Func.{Func}
-use Rattle.ir_core.specs.Places.{nowhere, unplaced_block}
+use Rattle.ir_core.specs.Places.{no_place, unplaced_block}
 use Rattle.ir_grammar.specs.declared.kinds.Kind.TheVariants as kinds
 use Rattle.ir_grammar.specs.declared.kinds.Barred.TheVariants as barred
 use Rattle.ir_grammar.specs.declared.which.Which.TheVariants as limits
@@ -221,8 +221,8 @@ brackets_from {A = A} l f g h s u ys t r = let q = r.6 in (r.0, r.1, r.2, r.3, r
 abbrev marks_before : Bool → Marks
 marks_before b = record no_marks { internal = b }
 
-abbrev marks_behind : Bool → Bool → Marks
-marks_behind i b = record (no_marks) { internal = i; noinline = b }
+abbrev marks_after : Bool → Bool → Marks
+marks_after i b = record (no_marks) { internal = i; noinline = b }
 
 define_from : (l : Limits) (count : ℕ) → is_past l.functions (count + 1) ≡ false → (s : Names) (u : List Piece) (a : Unit {0}) (t : Names) → (expect define_word).reads s u a t → (located (token (define_of l count))).reads s u (place_of u, tt) t
 define_from l count room s u a t r = (refl, (r.0, r.1, ap (define_of l count) (word_is (codes "define") r.0.token r.2) ∙ ap (λ (b : Bool). define_if true b) room, r.3))
@@ -244,22 +244,22 @@ internal_from s u b t (inl r) =
     )
 internal_from s u b t (inr r) = (zero, (r.0, ap (λ (x : Bool × Names). (marks_before x.0, x.1)) r.1))
 
-noinline_from : (i : Bool) (s : Names) (u : List Piece) (b : Bool) (t : Names) → (may_stand (codes "noinline")).reads s u b t → (attributes_and_notes (marks_before i)).reads s u (marks_behind i b) t
+noinline_from : (i : Bool) (s : Names) (u : List Piece) (b : Bool) (t : Names) → (may_stand (codes "noinline")).reads s u b t → (attributes_and_notes (marks_before i)).reads s u (marks_after i b) t
 unfolding attributes_and_notes attribute attribute_argument
 noinline_from i s u b t (inl r) =
     let taken : attribute_word_of barred.Nothing r.5.0.token ≡ Takes attributes.NoInline = ap (attribute_word_of barred.Nothing) (word_is (codes "noinline") r.5.0.token r.5.2) in (
       suc zero,
       (
-        marks_behind i true,
+        marks_after i true,
         r.1,
         r.2,
         r.3,
         r.4,
         inr (attributes.NoInline, r.1, r.2, [], sym (append-nil r.2), inl (attributes.NoInline, r.1, r.2, [], sym (append-nil r.2), (r.5.0, r.5.1, taken, r.5.3), (tt, r.1, [], [], refl, inr (inr (refl, refl)), (refl, refl))), (refl, refl)),
-        (r.6.0, ap (λ (x : Bool × Names). (marks_behind i x.0, x.1)) r.6.1),
+        (r.6.0, ap (λ (x : Bool × Names). (marks_after i x.0, x.1)) r.6.1),
       ),
     )
-noinline_from i s u b t (inr r) = (zero, (r.0, ap (λ (x : Bool × Names). (marks_behind i x.0, x.1)) r.1))
+noinline_from i s u b t (inr r) = (zero, (r.0, ap (λ (x : Bool × Names). (marks_after i x.0, x.1)) r.1))
 
 or_false : (b : Bool) → (b || false) ≡ b
 or_false true = refl
@@ -276,29 +276,29 @@ definition_end p f m t ps bs names = entities.Define (record {
 })
 
 func_is : (p : Place) (f : SymId) (i b : Bool) (t : IrType) (ps : List Param) (bs : List Block) (names : List (List ℕ)) →
-    IsOfFunc (definition_end p f (marks_behind i b) t ps bs names) (record { place = nowhere; name = f; internal = i; noinline = b; result = t; params = ps; locals = names; blocks = map unplaced_block bs })
-func_is p f i b t ps bs names = ap (λ (x : Bool). Some (Definition (record { place = nowhere; name = f; internal = i; noinline = x; result = t; params = ps; locals = names; blocks = map unplaced_block bs }))) (or_false b)
+    IsOfFunc (definition_end p f (marks_after i b) t ps bs names) (record { place = no_place; name = f; internal = i; noinline = b; result = t; params = ps; locals = names; blocks = map unplaced_block bs })
+func_is p f i b t ps bs names = ap (λ (x : Bool). Some (Definition (record { place = no_place; name = f; internal = i; noinline = x; result = t; params = ps; locals = names; blocks = map unplaced_block bs }))) (or_false b)
 
--- what is read behind the parts of a definition
-abbrev behind_params : Limits → Place → IrType → SymId → List Param → Marks → Form read_entities.Entity
-behind_params l p t f ps m = body l >>= λ bs. act locals_so_far >>= λ names. ret (definition_end p f m t ps bs names)
+-- what is read after the parts of a definition
+abbrev after_params : Limits → Place → IrType → SymId → List Param → Marks → Form read_entities.Entity
+after_params l p t f ps m = body l >>= λ bs. act locals_so_far >>= λ names. ret (definition_end p f m t ps bs names)
 
-abbrev behind_attributes : Limits → Place → Marks → Form read_entities.Entity
-behind_attributes l p m1 = type_form l >>= λ t. global >>= λ f. in_brackets l (param l) >>= λ ps. attributes_and_notes (without_groups m1) >>= λ m. behind_params l p t f ps m
+abbrev after_attributes : Limits → Place → Marks → Form read_entities.Entity
+after_attributes l p m1 = type_form l >>= λ t. global >>= λ f. in_brackets l (param l) >>= λ ps. attributes_and_notes (without_groups m1) >>= λ m. after_params l p t f ps m
 
 comes_func : (l : Limits) (count : ℕ) → is_past l.functions (count + 1) ≡ false → RereadsBody l → Comes IsOfFunc (printed_func l) (definition l count)
 unfolding definition
 comes_func l count room h =
-    comes_as (λ (w : Place × Unit {0}). act forget_locals >>= λ u. attribute_list barred.Values no_marks >>= λ m1. behind_attributes l w.0 m1) (expect define_word) (located (token (define_of l count))) (λ v w. (place_of v, tt)) (define_from l count room) (λ v w.
+    comes_as (λ (w : Place × Unit {0}). act forget_locals >>= λ u. attribute_list barred.Values no_marks >>= λ m1. after_attributes l w.0 m1) (expect define_word) (located (token (define_of l count))) (λ v w. (place_of v, tt)) (define_from l count room) (λ v w.
     comes_then (act forget_locals) (λ (x : Unit {0}).
-    comes_as (λ m1. behind_attributes l (place_of v) m1) (may_stand (codes "internal")) (attribute_list barred.Values no_marks) (λ v2 b. marks_before b) internal_from (λ v2 (i : Bool).
+    comes_as (λ m1. after_attributes l (place_of v) m1) (may_stand (codes "internal")) (attribute_list barred.Values no_marks) (λ v2 b. marks_before b) internal_from (λ v2 (i : Bool).
     comes_then (type_form l) (λ (t : IrType).
     comes_then global (λ (f : SymId).
-    comes_as (λ ps. attributes_and_notes (marks_before i) >>= λ m. behind_params l (place_of v) t f ps m) (in_brackets l (printed_param l)) (in_brackets l (param l)) (λ v3 ps. ps) (brackets_from l (printed_param l) (param l) (param_from l)) (λ v3 (ps : List Param).
-    comes_as (λ m. behind_params l (place_of v) t f ps m) (may_stand (codes "noinline")) (attributes_and_notes (marks_before i)) (λ v4 b. marks_behind i b) (noinline_from i) (λ v4 (b : Bool).
-    comes_first (λ bs. act locals_so_far >>= λ names. ret (record { place = nowhere; name = f; internal = i; noinline = b; result = t; params = ps; locals = names; blocks = bs })) (printed_body l) (body l) (map unplaced_block) (record { from = h }) (λ (bs : List Block).
+    comes_as (λ ps. attributes_and_notes (marks_before i) >>= λ m. after_params l (place_of v) t f ps m) (in_brackets l (printed_param l)) (in_brackets l (param l)) (λ v3 ps. ps) (brackets_from l (printed_param l) (param l) (param_from l)) (λ v3 (ps : List Param).
+    comes_as (λ m. after_params l (place_of v) t f ps m) (may_stand (codes "noinline")) (attributes_and_notes (marks_before i)) (λ v4 b. marks_after i b) (noinline_from i) (λ v4 (b : Bool).
+    comes_first (λ bs. act locals_so_far >>= λ names. ret (record { place = no_place; name = f; internal = i; noinline = b; result = t; params = ps; locals = names; blocks = bs })) (printed_body l) (body l) (map unplaced_block) (record { from = h }) (λ (bs : List Block).
     comes_then (act locals_so_far) (λ (names : List (List ℕ)).
-    comes_ret (definition_end (place_of v) f (marks_behind i b) t ps bs names) (func_is (place_of v) f i b t ps bs names))))))))))
+    comes_ret (definition_end (place_of v) f (marks_after i b) t ps bs names) (func_is (place_of v) f i b t ps bs names))))))))))
 
 comes_definition : (l : Limits) (count : ℕ) → is_past l.functions (count + 1) ≡ false → RereadsBody l → Comes IsOf (printed_func l >>= λ f. ret (Definition f)) (definition l count)
 comes_definition l count room h = comes_mapped Definition (comes_func l count room h) (λ x f e. e)

@@ -15,7 +15,7 @@ use Rattle.ir_printer.specs.declared.demands.Demands.{Demands}
 use Rattle.ir_printer.specs.declared.demands.Known.{Known}
 use Rattle.ir_printer.specs.declared.order.Kind.{Kind}
 use Rattle.ir_printer.specs.declared.order.Kind.TheVariants as kinds
-use Rattle.ir_printer.specs.Order.{demand, known_behind, fits, first_fits, first_left, turn, first_known, queue_of, without_first, turns, count}
+use Rattle.ir_printer.specs.Order.{demand, known_beyond, fits, first_fits, first_left, turn, first_known, queue_of, without_first, turns, count}
 use Rattle.ir_printer.specs.Printed.{Entity, TargetLine, DefinedType, Variable, Definition, Declared, entity_marks, Left, placed, type_demand, global_demand, func_demand, declaration_demand}
 
 -- ---- the parts of a list of entities
@@ -73,16 +73,16 @@ IsPart (Declared d) = Unit {0}
 
 -- an entity is there, and these are the others
 abbrev Taken : List Entity → Entity → List Entity → Type 0
-Taken es e others = (before behind : List Entity) × (es ≡ before ++ e ∷ behind) × (before ++ behind ≡ others)
+Taken es e others = (before after : List Entity) × (es ≡ before ++ e ∷ after) × (before ++ after ≡ others)
 
-every_taken : (P : Entity → Type 0) (before : List Entity) (e : Entity) (behind : List Entity) → Every P (before ++ e ∷ behind) → P e × Every P (before ++ behind)
-every_taken P [] e behind h = h
-every_taken P (x ∷ before) e behind h = let k = every_taken P before e behind h.1 in (k.0, (h.0, k.1))
+every_taken : (P : Entity → Type 0) (before : List Entity) (e : Entity) (after : List Entity) → Every P (before ++ e ∷ after) → P e × Every P (before ++ after)
+every_taken P [] e after h = h
+every_taken P (x ∷ before) e after h = let k = every_taken P before e after h.1 in (k.0, (h.0, k.1))
 
 -- parts of one kind: the first one is taken
 module _ {A : Type 0} (made : A → Entity) (own : Entity → List A) (by : (e : Entity) → (own e ≡ []) ⊎ ((a : A) × (e ≡ made a) × (own e ≡ a ∷ []))) where
   abbrev First : List Entity → A → List A → Type 0
-  First es a more = (before behind : List Entity) × (es ≡ before ++ made a ∷ behind) × (flat_map own (before ++ behind) ≡ more)
+  First es a more = (before after : List Entity) × (es ≡ before ++ made a ∷ after) × (flat_map own (before ++ after) ≡ more)
 
   first : (es : List Entity) (a : A) (more : List A) → flat_map own es ≡ a ∷ more → First es a more
   first [] a more h = absurd cc
@@ -99,9 +99,9 @@ module _ {A : Type 0} (made : A → Entity) (own : Entity → List A) (by : (e :
           ([], es, ap (λ (y : Entity). y ∷ es) (z.1 ∙ ap made here), rest)
 
 -- the parts of the other kinds stay
-others_stay : {A : Type 0} (own : Entity → List A) (before : List Entity) (e : Entity) (behind : List Entity) → own e ≡ [] → flat_map own (before ++ behind) ≡ flat_map own (before ++ e ∷ behind)
-others_stay own [] e behind z = ap (λ xs. xs ++ flat_map own behind) (sym z)
-others_stay own (x ∷ before) e behind z = ap (λ xs. own x ++ xs) (others_stay own before e behind z)
+others_stay : {A : Type 0} (own : Entity → List A) (before : List Entity) (e : Entity) (after : List Entity) → own e ≡ [] → flat_map own (before ++ after) ≡ flat_map own (before ++ e ∷ after)
+others_stay own [] e after z = ap (λ xs. xs ++ flat_map own after) (sym z)
+others_stay own (x ∷ before) e after z = ap (λ xs. own x ++ xs) (others_stay own before e after z)
 
 type_by : (e : Entity) → (type_in e ≡ []) ⊎ ((a : TypeDef) × (e ≡ DefinedType a) × (type_in e ≡ a ∷ []))
 type_by (TargetLine w said) = inl refl
@@ -135,8 +135,8 @@ pub same_left : {t t2 : List TypeDef} {g g2 : List GlobalVar} {f f2 : List Func}
 same_left {t = t} {t2 = t2} {g = g} {g2 = g2} {f = f} {f2 = f2} {d = d} {d2 = d2} a b c e =
     ap (λ (x : List TypeDef). left x g f d) a ∙ ap (λ (x : List GlobalVar). left t2 x f d) b ∙ ap (λ (x : List Func). left t2 g2 x d) c ∙ ap (λ (x : List Declaration). left t2 g2 f2 x) e
 
-length_without : (before : List Entity) (e : Entity) (behind : List Entity) (n : ℕ) → length (before ++ e ∷ behind) ≡ suc n → length (before ++ behind) ≡ n
-length_without before e behind n h = let a = length-append before (e ∷ behind) in let b = length-append before behind in omega arith
+length_without : (before : List Entity) (e : Entity) (after : List Entity) (n : ℕ) → length (before ++ e ∷ after) ≡ suc n → length (before ++ after) ≡ n
+length_without before e after n h = let a = length-append before (e ∷ after) in let b = length-append before after in omega arith
 
 -- ---- names that are known
 
@@ -146,7 +146,7 @@ Grows k l = (k.symbols ≤ l.symbols) × (k.types ≤ l.types)
 fits_more : (k l : Known) (d : Demand) → Grows k l → fits k d ≡ true → fits l d ≡ true
 fits_more k l d g h = let a = g.0 in let b = g.1 in grind (arith, nat_tests)
 
-grown : (k : Known) (d : Demand) → Grows k (known_behind k d)
+grown : (k : Known) (d : Demand) → Grows k (known_beyond k d)
 grown k d = (omega arith, omega arith)
 
 max_swap : (a b c : ℕ) → max (max a b) c ≡ max (max a c) b
@@ -158,7 +158,7 @@ known_of symbols types = record { symbols = symbols; types = types }
 same_known : (a b c d : ℕ) → a ≡ b → c ≡ d → known_of a c ≡ known_of b d
 same_known a b c d e f = ap₂ known_of e f
 
-known_swap : (k : Known) (d e : Demand) → known_behind (known_behind k d) e ≡ known_behind (known_behind k e) d
+known_swap : (k : Known) (d e : Demand) → known_beyond (known_beyond k d) e ≡ known_beyond (known_beyond k e) d
 known_swap k d e = same_known _ _ _ _ (max_swap k.symbols d.symbols.reach e.symbols.reach) (max_swap k.types d.types.reach e.types.reach)
 
 module _ (symbols : List (List ℕ)) where
@@ -168,23 +168,23 @@ module _ (symbols : List (List ℕ)) where
   -- each finds the names before its own, from what is known
   abbrev pub Fitted : Known → List Entity → Type 0
   Fitted k [] = Unit {0}
-  Fitted k (e ∷ es) = (fits k (demand_of e) ≡ true) × Fitted (known_behind k (demand_of e)) es
+  Fitted k (e ∷ es) = (fits k (demand_of e) ≡ true) × Fitted (known_beyond k (demand_of e)) es
 
   abbrev pub known_after : Known → List Entity → Known
   known_after k [] = k
-  known_after k (e ∷ es) = known_after (known_behind k (demand_of e)) es
+  known_after k (e ∷ es) = known_after (known_beyond k (demand_of e)) es
 
-  fitted_without : (before : List Entity) (k : Known) (e : Entity) (behind : List Entity) → Fitted k (before ++ e ∷ behind) → fits k (demand_of e) ≡ true → Fitted (known_behind k (demand_of e)) (before ++ behind)
-  fitted_without [] k e behind h f = h.1
-  fitted_without (x ∷ before) k e behind h f = (
-    fits_more k (known_behind k (demand_of e)) (demand_of x) (grown k (demand_of e)) h.0,
-    subst (λ (l : Known). Fitted l (before ++ behind)) (known_swap k (demand_of x) (demand_of e))
-        (fitted_without before (known_behind k (demand_of x)) e behind h.1 (fits_more k (known_behind k (demand_of x)) (demand_of e) (grown k (demand_of x)) f)),
+  fitted_without : (before : List Entity) (k : Known) (e : Entity) (after : List Entity) → Fitted k (before ++ e ∷ after) → fits k (demand_of e) ≡ true → Fitted (known_beyond k (demand_of e)) (before ++ after)
+  fitted_without [] k e after h f = h.1
+  fitted_without (x ∷ before) k e after h f = (
+    fits_more k (known_beyond k (demand_of e)) (demand_of x) (grown k (demand_of e)) h.0,
+    subst (λ (l : Known). Fitted l (before ++ after)) (known_swap k (demand_of x) (demand_of e))
+        (fitted_without before (known_beyond k (demand_of x)) e after h.1 (fits_more k (known_beyond k (demand_of x)) (demand_of e) (grown k (demand_of x)) f)),
   )
 
-  known_without : (before : List Entity) (k : Known) (e : Entity) (behind : List Entity) → known_after (known_behind k (demand_of e)) (before ++ behind) ≡ known_after k (before ++ e ∷ behind)
-  known_without [] k e behind = refl
-  known_without (x ∷ before) k e behind = ap (λ (l : Known). known_after l (before ++ behind)) (known_swap k (demand_of e) (demand_of x)) ∙ known_without before (known_behind k (demand_of x)) e behind
+  known_without : (before : List Entity) (k : Known) (e : Entity) (after : List Entity) → known_after (known_beyond k (demand_of e)) (before ++ after) ≡ known_after k (before ++ e ∷ after)
+  known_without [] k e after = refl
+  known_without (x ∷ before) k e after = ap (λ (l : Known). known_after l (before ++ after)) (known_swap k (demand_of e) (demand_of x)) ∙ known_without before (known_beyond k (demand_of x)) e after
 
   -- ---- one order and another
 
@@ -199,19 +199,19 @@ module _ (symbols : List (List ℕ)) where
   abbrev in_turn : ℕ → Known → Left → List Entity
   in_turn n k l = placed (turns n k (demands_left symbols l)) l
 
-  -- an entity is the next one, and the others come behind it
+  -- an entity is the next one, and the others come after it
   one_turn : (P : Entity → Type 0) (n : ℕ) (k : Known) (es : List Entity) (kind : Kind) (e : Entity) (others : List Entity) →
       turn k (demands_left symbols (left_of es)) ≡ Some kind →
-      first_known k (queue_of kind (demands_left symbols (left_of es))) ≡ known_behind k (demand_of e) →
+      first_known k (queue_of kind (demands_left symbols (left_of es))) ≡ known_beyond k (demand_of e) →
       without_first kind (demands_left symbols (left_of es)) ≡ demands_left symbols (left_of others) →
       ((ks : List Kind) → placed (kind ∷ ks) (left_of es) ≡ e ∷ placed ks (left_of others)) →
       fits k (demand_of e) ≡ true → Taken es e others → IsPart e →
       ((xs : List Entity) → left_of xs ≡ left_of others → left_of (e ∷ xs) ≡ left_of es) →
       Every P es → Fitted k es →
-      (Every P others → Fitted (known_behind k (demand_of e)) others → Ordered P (known_behind k (demand_of e)) others (in_turn n (known_behind k (demand_of e)) (left_of others))) →
+      (Every P others → Fitted (known_beyond k (demand_of e)) others → Ordered P (known_beyond k (demand_of e)) others (in_turn n (known_beyond k (demand_of e)) (left_of others))) →
       Ordered P k es (in_turn (suc n) k (left_of es))
   one_turn P n k es kind e others turned known rest placing fit taken part parts every fitted more =
-      let next = known_behind k (demand_of e) in
+      let next = known_beyond k (demand_of e) in
       let moved = every_taken P taken.0 e taken.1 (subst (Every P) taken.2 every) in
       let others_fit = subst (Fitted next) taken.3 (fitted_without taken.0 k e taken.1 (subst (Fitted k) taken.2 fitted) fit) in
       let h = more (subst (Every P) taken.3 moved.1) others_fit in
@@ -253,10 +253,10 @@ module _ (symbols : List (List ℕ)) where
     abbrev q : Demands
     q = demands_left symbols (left_of es)
 
-    -- what comes behind an entity that is taken
-    behind_it : (e : Entity) (others : List Entity) → Taken es e others → Every P others → Fitted (known_behind k (demand_of e)) others → Ordered P (known_behind k (demand_of e)) others (in_turn n (known_behind k (demand_of e)) (left_of others))
-    behind_it e others t others_every others_fit =
-        more (known_behind k (demand_of e)) others (ap length (sym t.3) ∙ length_without t.0 e t.1 n (ap length (sym t.2) ∙ size))
+    -- what comes after an entity that is taken
+    after_it : (e : Entity) (others : List Entity) → Taken es e others → Every P others → Fitted (known_beyond k (demand_of e)) others → Ordered P (known_beyond k (demand_of e)) others (in_turn n (known_beyond k (demand_of e)) (left_of others))
+    after_it e others t others_every others_fit =
+        more (known_beyond k (demand_of e)) others (ap length (sym t.3) ∙ length_without t.0 e t.1 n (ap length (sym t.2) ∙ size))
         (subst (Every IsPart) t.3 (every_taken IsPart t.0 e t.1 (subst (Every IsPart) t.2 part)).1) others_every others_fit
 
     type_turn : first_fits k q.types ≡ true → Ordered P k es (in_turn (suc n) k (left_of es))
@@ -277,7 +277,7 @@ module _ (symbols : List (List ℕ)) where
         (λ ks. ap (placed (kinds.Type ∷ ks)) same ∙ ap (λ (l : Left). e ∷ placed ks l) less)
         h.3 t tt
         (λ xs g. ap (λ (l : Left). left (x ∷ l.types) l.globals l.funcs l.declared) (g ∙ sym less) ∙ sym same)
-        every fitted (behind_it e others t)
+        every fitted (after_it e others t)
 
     global_turn : first_fits k q.types ≡ false → first_fits k q.globals ≡ true → Ordered P k es (in_turn (suc n) k (left_of es))
     global_turn a b =
@@ -297,7 +297,7 @@ module _ (symbols : List (List ℕ)) where
         (λ ks. ap (placed (kinds.Global ∷ ks)) same ∙ ap (λ (l : Left). e ∷ placed ks l) less)
         h.3 t tt
         (λ xs g. ap (λ (l : Left). left l.types (x ∷ l.globals) l.funcs l.declared) (g ∙ sym less) ∙ sym same)
-        every fitted (behind_it e others t)
+        every fitted (after_it e others t)
 
     func_turn : first_fits k q.types ≡ false → first_fits k q.globals ≡ false → first_fits k q.funcs ≡ true → Ordered P k es (in_turn (suc n) k (left_of es))
     func_turn a b c =
@@ -318,7 +318,7 @@ module _ (symbols : List (List ℕ)) where
         (λ ks. ap (placed (kinds.Func ∷ ks)) same ∙ ap (λ (l : Left). e ∷ placed ks l) less)
         h.3 t tt
         (λ xs g. ap (λ (l : Left). left l.types l.globals (x ∷ l.funcs) l.declared) (g ∙ sym less) ∙ sym same)
-        every fitted (behind_it e others t)
+        every fitted (after_it e others t)
 
     declared_turn : first_fits k q.types ≡ false → first_fits k q.globals ≡ false → first_fits k q.funcs ≡ false → first_fits k q.declared ≡ true → Ordered P k es (in_turn (suc n) k (left_of es))
     declared_turn a b c d =
@@ -339,7 +339,7 @@ module _ (symbols : List (List ℕ)) where
         (λ ks. ap (placed (kinds.Declared ∷ ks)) same ∙ ap (λ (l : Left). e ∷ placed ks l) less)
         h.3 t tt
         (λ xs g. ap (λ (l : Left). left l.types l.globals l.funcs (x ∷ l.declared)) (g ∙ sym less) ∙ sym same)
-        every fitted (behind_it e others t)
+        every fitted (after_it e others t)
 
     none_fits : first_fits k q.types ≡ false → first_fits k q.globals ≡ false → first_fits k q.funcs ≡ false → first_fits k q.declared ≡ false → ⊥
     none_fits a b c d = at es size part fitted a b c d

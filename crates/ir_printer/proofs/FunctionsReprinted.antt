@@ -14,7 +14,7 @@ use Rattle.ir_core.specs.declared.op.LocalId.{LocalId}
 use Rattle.ir_core.specs.declared.func.Block.{Block}
 use Rattle.ir_core.specs.declared.func.Param.{Param}
 use Rattle.ir_core.specs.declared.func.Func.{Func}
-use Rattle.ir_core.specs.Places.{nowhere, unplaced_block, unplaced_func}
+use Rattle.ir_core.specs.Places.{no_place, unplaced_block, unplaced_func}
 use Rattle.ir_grammar.specs.declared.kinds.Kind.TheVariants as kinds
 use Rattle.ir_grammar.specs.declared.kinds.Barred.TheVariants as barred
 use Rattle.ir_grammar.specs.declared.parts.Marks.{Marks}
@@ -39,11 +39,11 @@ use Rattle.ir_printer.specs.declared.marks.Mark.{Mark}
 use Rattle.ir_printer.specs.declared.marks.Mark.TheVariants as marks
 use Rattle.ir_printer.specs.Layout.{Tables, tables, name_at}
 use Rattle.ir_printer.specs.Marks.{type_marks, param_marks, in_round, word_if, body_marks, func_marks}
-use Rattle.ir_printer.specs.Order.{demand, known_behind, fits}
+use Rattle.ir_printer.specs.Order.{demand, known_beyond, fits}
 use Rattle.ir_printer.specs.Printed.{Entity}
 use Rattle.ir_printer.specs.Printed as printed_entities
 use Rattle.ir_printer.specs.Tokens.{tokens_of, Are, AreSpellable}
-use Rattle.ir_printer.specs.Reprints.{counts, behind, Front, AreSound, IsReprinted}
+use Rattle.ir_printer.specs.Reprints.{counts, after, Front, AreSound, IsReprinted}
 use Rattle.ir_printer.proofs.Positions.{IsIndexed, none_indexed, name_front, all_names}
 use Rattle.ir_printer.proofs.Reprinting.{Indexed, IndexedTables, Prints, reprinted_then, assoc_back, prints_then, prints_done, prints_cases, prints_in, sound_last}
 use Rattle.ir_printer.proofs.Images.{PrintsAs, as_then, as_next, as_done}
@@ -54,7 +54,7 @@ use Rattle.ir_printer.proofs.TypesReprinted.{prints_type_form}
 use Rattle.ir_printer.proofs.ValuesReprinted.{prints_global}
 use Rattle.ir_printer.proofs.ArgumentsReprinted.{prints_in_brackets}
 use Rattle.ir_printer.proofs.PrintedForms.{may_stand, printed_param, printed_body, printed_entity, PrintsBody, known, IsEntityReprinted, printed_of, IsReadEntity}
-use Rattle.ir_printer.proofs.DemandsReady.{known_of, ready_fits, ready_locals, fits_ready, known_behind_marks, locals_behind_marks}
+use Rattle.ir_printer.proofs.DemandsReady.{known_of, ready_fits, ready_locals, fits_ready, known_beyond_marks, locals_after_marks}
 use Rattle.ir_printer.proofs.GlobalsReprinted.{as_quiet, reprinted_flag}
 
 -- ---- parameters
@@ -70,7 +70,7 @@ prints_param i l =
     prints_drop (attribute_list barred.Values no_marks) (quiet_attribute_list barred.Values no_marks)
     (prints_in (prints_then (prints_param_name i) (λ (x : LocalId). prints_done refl)) (assoc_back (text kinds.Local) (λ name. act (define name)) (λ (x : LocalId). ret (record { ty = t; name = x })))))
 
--- ---- a definition behind its first attributes, where these are the names at its end
+-- ---- a definition after its first attributes, where these are the names at its end
 
 abbrev read_rest : Limits → List (List ℕ) → Place → Marks → Form Definition
 read_rest l names place m1 = do
@@ -91,7 +91,7 @@ printed_rest l names internal = do
   ps ← in_brackets l (printed_param l)
   is_noinline ← may_stand (codes "noinline")
   bs ← printed_body l
-  ret (record { place = nowhere; name = f; internal = internal; noinline = is_noinline; result = t; params = ps; locals = names; blocks = bs })
+  ret (record { place = no_place; name = f; internal = internal; noinline = is_noinline; result = t; params = ps; locals = names; blocks = bs })
 
 -- a definition as it is printed, internal or not
 abbrev image_with : List (List ℕ) → Bool → Definition → Func
@@ -114,9 +114,9 @@ prints_rest n l noinline names place m1 internal i h =
     as_next (prints_global i) (λ (f : SymId).
     as_next (prints_in_brackets l param_marks (prints_param i l)) (λ (ps : List Param).
     as_then {first = is_noinline_in noinline} {own = λ b. word_if b words.NoInline}
-    (λ (b : Bool). printed_body l >>= λ bs. ret (record { place = nowhere; name = f; internal = internal; noinline = b; result = t; params = ps; locals = names; blocks = bs }))
+    (λ (b : Bool). printed_body l >>= λ bs. ret (record { place = no_place; name = f; internal = internal; noinline = b; result = t; params = ps; locals = names; blocks = bs }))
     (as_quiet {image = is_noinline_in noinline} (attributes_and_notes (without_groups m1)) (quiet_attributes (without_groups m1)) (λ s u a t2 r sound. reprinted_flag true n words.NoInline refl s (is_noinline_in noinline a))) (λ (m : Marks).
-    as_then (λ (bs : List Block). ret (record { place = nowhere; name = f; internal = internal; noinline = is_noinline_in noinline m; result = t; params = ps; locals = names; blocks = bs })) h (λ (bs : List Block).
+    as_then (λ (bs : List Block). ret (record { place = no_place; name = f; internal = internal; noinline = is_noinline_in noinline m; result = t; params = ps; locals = names; blocks = bs })) h (λ (bs : List Block).
     as_done refl (func_marks_are (marks.Word words.Define) (marks.Symbol f) (word_if internal words.Internal) (type_marks t) (in_round (map param_marks ps)) (word_if (is_noinline_in noinline m) words.NoInline) (body_marks (map unplaced_block bs))))))))
 
 -- ---- the names at the end
@@ -162,11 +162,11 @@ named_front : (n : Tables) (s : Names) (names : List (List ℕ)) → s.locals �
 named_front n s names e front = (front.0, front.1, λ i. ([], append-nil s.locals ∙ e))
 
 -- a printed function from its first word
-abbrev behind_define : Limits → List (List ℕ) → Form Func
-behind_define l names = may_stand (codes "internal") >>= λ b. printed_rest l names b
+abbrev after_define : Limits → List (List ℕ) → Form Func
+after_define l names = may_stand (codes "internal") >>= λ b. printed_rest l names b
 
 -- the word `define` before a function
-printed_again : (l : Limits) (names : List (List ℕ)) (s : Names) (q : Spot) (us : List Piece) (f : Func) (t : Names) → q.token ≡ tokens.Word (codes "define") → (behind_define l names).reads (no_locals s) us f t → t.locals ≡ names →
+printed_again : (l : Limits) (names : List (List ℕ)) (s : Names) (q : Spot) (us : List Piece) (f : Func) (t : Names) → q.token ≡ tokens.Word (codes "define") → (after_define l names).reads (no_locals s) us f t → t.locals ≡ names →
     (printed_entity l).reads s (Is q ∷ us) (printed_entities.Definition f) t
 printed_again l names s q us f t is r e =
     let w = (with_end r.0).to r.1 r.3 f t r.6 e in
@@ -191,7 +191,7 @@ printed_again l names s q us f t is r e =
     whole_rest : Bool → Form Func
     whole_rest b =
         type_form l >>= λ t. global >>= λ f. in_brackets l (printed_param l) >>= λ ps. may_stand (codes "noinline") >>= λ is_noinline. printed_body l >>= λ bs. act locals_so_far >>= λ names.
-        ret (record { place = nowhere; name = f; internal = b; noinline = is_noinline; result = t; params = ps; locals = names; blocks = bs })
+        ret (record { place = no_place; name = f; internal = b; noinline = is_noinline; result = t; params = ps; locals = names; blocks = bs })
 
     with_end : (b : Bool) → Within names (λ (y : Func). y) (printed_rest l names b) (whole_rest b)
     with_end b =
@@ -200,35 +200,35 @@ printed_again l names s q us f t is r e =
         within_then (in_brackets l (printed_param l)) (λ (ps : List Param).
         within_then (may_stand (codes "noinline")) (λ (is_noinline : Bool).
         within_then (printed_body l) (λ (bs : List Block).
-        without_names names (λ x. record { place = nowhere; name = f; internal = b; noinline = is_noinline; result = t; params = ps; locals = x; blocks = bs }))))))
+        without_names names (λ x. record { place = no_place; name = f; internal = b; noinline = is_noinline; result = t; params = ps; locals = x; blocks = bs }))))))
 
 -- a function that is reprinted from its first word
-func_reprinted : (n : Tables) (l : Limits) (s : Names) (f : Func) (t : Names) (ms : List Mark) → func_marks f ≡ marks.Word words.Define ∷ ms → t.locals ≡ f.locals → IsReprinted true (tables n.symbols n.types f.locals) (behind_define l f.locals) (no_locals s) f t ms → IsEntityReprinted n l s (printed_entities.Definition f) t
+func_reprinted : (n : Tables) (l : Limits) (s : Names) (f : Func) (t : Names) (ms : List Mark) → func_marks f ≡ marks.Word words.Define ∷ ms → t.locals ≡ f.locals → IsReprinted true (tables n.symbols n.types f.locals) (after_define l f.locals) (no_locals s) f t ms → IsEntityReprinted n l s (printed_entities.Definition f) t
 func_reprinted n l s f t ms e own h = record {
   fitting = subst (λ (xs : List Mark). fits (known s) (demand xs) ≡ true) (sym e) (ready_fits (counts (no_locals s)) ms h.ready);
-  counted = subst (λ (xs : List Mark). known t ≡ known_behind (known s) (demand xs)) (sym e) (ap known_of h.counted ∙ known_behind_marks (counts (no_locals s)) ms);
+  counted = subst (λ (xs : List Mark). known t ≡ known_beyond (known s) (demand xs)) (sym e) (ap known_of h.counted ∙ known_beyond_marks (counts (no_locals s)) ms);
   spellable = subst (λ (xs : List Mark). AreSpellable m xs) (sym e) (tt, h.spellable);
-  rereads = λ s2 us front fit are. subst (λ (xs : List Mark). (t2 : Names) × (printed_entity l).reads s2 us (printed_entities.Definition f) t2 × Front false n t2 × (known t2 ≡ known_behind (known s2) (demand xs))) (sym e)
+  rereads = λ s2 us front fit are. subst (λ (xs : List Mark). (t2 : Names) × (printed_entity l).reads s2 us (printed_entities.Definition f) t2 × Front false n t2 × (known t2 ≡ known_beyond (known s2) (demand xs))) (sym e)
       (again s2 us front (subst (λ (xs : List Mark). fits (known s2) (demand xs) ≡ true) e fit) (subst (λ (xs : List Mark). Are us (tokens_of m xs)) e are));
 }
   where
     m : Tables
     m = tables n.symbols n.types f.locals
 
-    as_many : (t2 : Names) (s2 : Names) → counts t2 ≡ behind (counts (no_locals s2)) ms → length t2.locals ≡ length f.locals
-    as_many t2 s2 c = ap (λ b. b.locals) c ∙ locals_behind_marks (counts (no_locals s2)) ms ∙ sym (ap (λ b. b.locals) h.counted ∙ locals_behind_marks (counts (no_locals s)) ms) ∙ ap length own
+    as_many : (t2 : Names) (s2 : Names) → counts t2 ≡ after (counts (no_locals s2)) ms → length t2.locals ≡ length f.locals
+    as_many t2 s2 c = ap (λ b. b.locals) c ∙ locals_after_marks (counts (no_locals s2)) ms ∙ sym (ap (λ b. b.locals) h.counted ∙ locals_after_marks (counts (no_locals s)) ms) ∙ ap length own
 
     again : (s2 : Names) (us : List Piece) → Front false n s2 → fits (known s2) (demand ms) ≡ true → Are us (tokens.Word (codes "define") ∷ tokens_of m ms) →
-        (t2 : Names) × (printed_entity l).reads s2 us (printed_entities.Definition f) t2 × Front false n t2 × (known t2 ≡ known_behind (known s2) (demand ms))
+        (t2 : Names) × (printed_entity l).reads s2 us (printed_entities.Definition f) t2 × Front false n t2 × (known t2 ≡ known_beyond (known s2) (demand ms))
     again s2 [] front fit are = absurd are
     again s2 (Bad x ∷ us) front fit are = absurd are
     again s2 (Is q ∷ us) front fit are =
         let r = h.rereads (no_locals s2) us (front.0, front.1, λ i. (f.locals, refl)) (fits_ready (counts (no_locals s2)) ms fit (ready_locals (counts (no_locals s)) ms h.ready)) are.1 in
-        (r.0, printed_again l f.locals s2 q us f r.0 are.0 r.1 (all_names r.0.locals (r.2.2 refl).0 f.locals (r.2.2 refl).1 (as_many r.0 s2 r.3)), (r.2.0, r.2.1, λ i. absurd cc), ap known_of r.3 ∙ known_behind_marks (counts (no_locals s2)) ms)
+        (r.0, printed_again l f.locals s2 q us f r.0 are.0 r.1 (all_names r.0.locals (r.2.2 refl).0 f.locals (r.2.2 refl).1 (as_many r.0 s2 r.3)), (r.2.0, r.2.1, λ i. absurd cc), ap known_of r.3 ∙ known_beyond_marks (counts (no_locals s2)) ms)
 
 -- ---- definitions that were read
 
--- a definition behind the word and its first attributes
+-- a definition after the word and its first attributes
 abbrev attributed : Limits → Place → Form read_entities.Entity
 attributed l place = do
   m1 ← attribute_list barred.Values no_marks
@@ -296,7 +296,7 @@ definition_indexed l s u x t bodies d i j =
     let none : IndexedTables (tables [] [] []) = (none_indexed, none_indexed, none_indexed) in
     (prints_rest (tables [] [] []) l [] t.locals d.place d.marks false none (bodies (tables [] [] []) none)).indexed (no_locals s) d.pieces d.def t d.reads (i, j, none_indexed)
 
--- names are only put behind those before a definition
+-- names are only put after those before a definition
 definition_front : (n : Tables) (l : Limits) (count : ℕ) (s : Names) (u : List Piece) (x : read_entities.Entity) (t : Names) → (definition l count).reads s u x t → Front false n t → Front false n s
 definition_front n l count s u x t r front =
     let more = (keeps_definition {n = t} {H = Unit {0}} l count).grows s u x t r in
@@ -318,7 +318,7 @@ definition_prints n l noinline s u x t i j own bodies d front sound = made (rest
 
     made : (ms : List Mark) × (func_marks f ≡ ((marks.Word words.Define ∷ []) ++ word_if d.def.func.internal words.Internal) ++ ms) × IsReprinted true m (printed_rest l t.locals d.def.func.internal) (no_locals s) f t ms → IsEntityReprinted n l s (printed_entities.Definition f) t
     made q = func_reprinted n l s f t (word_if d.def.func.internal words.Internal ++ q.0) q.1 d.named
-        (subst (λ (names : List (List ℕ)). IsReprinted true (tables n.symbols n.types names) (behind_define l names) (no_locals s) f t (word_if d.def.func.internal words.Internal ++ q.0)) d.named
+        (subst (λ (names : List (List ℕ)). IsReprinted true (tables n.symbols n.types names) (after_define l names) (no_locals s) f t (word_if d.def.func.internal words.Internal ++ q.0)) d.named
         (reprinted_then true m (may_stand (codes "internal")) (λ (b : Bool). printed_rest l t.locals b) (no_locals s) d.def.func.internal (no_locals s) f t (word_if d.def.func.internal words.Internal) q.0
         (reprinted_flag true m words.Internal refl (no_locals s) d.def.func.internal) q.2))
 

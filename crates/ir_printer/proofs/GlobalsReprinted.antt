@@ -10,7 +10,7 @@ use Rattle.ir_lexer.specs.declared.table.Token.TheVariants as tokens
 use Rattle.ir_core.specs.declared.ty.IrType.{IrType}
 use Rattle.ir_core.specs.declared.constant.Const.{Const}
 use Rattle.ir_core.specs.declared.module.SymId.{SymId}
-use Rattle.ir_core.specs.Places.{nowhere}
+use Rattle.ir_core.specs.Places.{no_place}
 use Rattle.ir_grammar.specs.declared.parts.Entity as read_entities
 use Rattle.ir_grammar.specs.Pieces.{Piece, Is, Bad}
 use Rattle.ir_grammar.specs.Names.{Names}
@@ -97,8 +97,8 @@ IsSpelled l (Some x) = IsNumber l.length x
 
 align_spelled : (l : Limits) (a : Option ℕ) → IsSpelled l a → (s : Names) (u : List Piece) (b : Option ℕ) (t : Names) → (align_or_note l a).reads s u b t → AreSound u → IsSpelled l b
 align_spelled l a h s u b t (inl r) sound =
-    let behind = sound_last r.2 r.3 (subst AreSound r.4 sound) in
-    let one = subst AreSound r.6.5.1 (sound_first r.6.2 r.6.3 (subst AreSound r.6.4 behind)) in
+    let after = sound_last r.2 r.3 (subst AreSound r.4 sound) in
+    let one = subst AreSound r.6.5.1 (sound_first r.6.2 r.6.3 (subst AreSound r.6.4 after)) in
     ends (λ (y : Option ℕ) (z : Names). IsSpelled l y) r.6.6.1 (number_sound l.length r.6.5.0.token r.6.0 r.6.5.2 one.0)
 align_spelled l a h s u b t (inr r) sound = ends (λ (y : Option ℕ) (z : Names). IsSpelled l y) r.6.1 h
 
@@ -117,20 +117,20 @@ global_end_spelled l s u b t r sound = end_spelled l r.0 None tt s u b t r.1 sou
 reprinted_align : (inside : Bool) (n : Tables) (l : Limits) (s : Names) (a : Option ℕ) → IsSpelled l a → IsReprinted inside n (printed_align l) s a s (align_marks a)
 reprinted_align inside n l s None h = reprinted_nothing inside n (printed_align l) s None (λ s2. inr (refl, refl))
 reprinted_align inside n l s (Some x) h =
-    reprinted_in inside n (expect (sign 44) >>= λ c. behind_sign) (printed_align l) (λ s2 u a t r. inl r) s (Some x) s (align_marks (Some x))
-    (reprinted_then inside n (expect (sign 44)) (λ (c : Unit {0}). behind_sign) s tt s (Some x) s (comma ∷ []) (marks.Word words.Align ∷ marks.Int (pos x) ∷ [])
+    reprinted_in inside n (expect (sign 44) >>= λ c. after_sign) (printed_align l) (λ s2 u a t r. inl r) s (Some x) s (align_marks (Some x))
+    (reprinted_then inside n (expect (sign 44)) (λ (c : Unit {0}). after_sign) s tt s (Some x) s (comma ∷ []) (marks.Word words.Align ∷ marks.Int (pos x) ∷ [])
     (reprinted_token inside n _ s tt comma (tokens.Sign 44) (record { plain = refl; spellable = tt; told = refl; takes = refl }))
-    (reprinted_then inside n (expect align_word) (λ (w : Unit {0}). behind_word) s tt s (Some x) s (marks.Word words.Align ∷ []) (marks.Int (pos x) ∷ [])
+    (reprinted_then inside n (expect align_word) (λ (w : Unit {0}). after_word) s tt s (Some x) s (marks.Word words.Align ∷ []) (marks.Int (pos x) ∷ [])
     (reprinted_token inside n _ s tt (marks.Word words.Align) (tokens.Word (codes "align")) (record { plain = refl; spellable = tt; told = refl; takes = refl }))
     (reprinted_then inside n (number l.length) (λ (y : ℕ). ret (Some y)) s x s (Some x) s (marks.Int (pos x) ∷ []) []
     (reprinted_token inside n (number_of l.length) s x (marks.Int (pos x)) (tokens.Int (pos x)) (record { plain = refl; spellable = h.0; told = refl; takes = h.1 }))
     (reprinted_nothing inside n (ret (Some x)) s (Some x) (λ s2. (refl, refl))))))
   where
-    behind_word : Form (Option ℕ)
-    behind_word = number l.length >>= λ (y : ℕ). ret (Some y)
+    after_word : Form (Option ℕ)
+    after_word = number l.length >>= λ (y : ℕ). ret (Some y)
 
-    behind_sign : Form (Option ℕ)
-    behind_sign = expect align_word >>= λ w. behind_word
+    after_sign : Form (Option ℕ)
+    after_sign = expect align_word >>= λ w. after_word
 
 prints_global_end : {inside : Bool} {n : Tables} (l : Limits) → Prints inside n (global_end l None) (printed_align l) [] align_marks
 prints_global_end {inside = inside} {n = n} l = prints_quiet (global_end l None) (quiet_global_end l) (λ s u a t r sound. reprinted_align inside n l s a (global_end_spelled l s u a t r sound))
@@ -141,7 +141,7 @@ global_marks_are g e w is ts cs as' = simp append_assoc
 prints_global_var : (n : Tables) (l : Limits) (noinline : List (List ℕ)) → IndexedTables n → PrintsAs false n (image_of noinline) (global_var l) (printed_global l) [] (entity_marks n.symbols)
 unfolding global_var
 prints_global_var n l noinline i =
-    as_then (λ (g : SymId). equals >>= λ e. may_stand (codes "internal") >>= λ is. one_word storage_words >>= λ c. type_form l >>= λ t. init l >>= λ v. printed_align l >>= λ a. ret (Variable (record { place = nowhere; name = g; internal = is; constant = c; ty = t; init = v; align = a })))
+    as_then (λ (g : SymId). equals >>= λ e. may_stand (codes "internal") >>= λ is. one_word storage_words >>= λ c. type_form l >>= λ t. init l >>= λ v. printed_align l >>= λ a. ret (Variable (record { place = no_place; name = g; internal = is; constant = c; ty = t; init = v; align = a })))
     (as_located (as_it_is (prints_global i))) (λ (g : Place × SymId).
     as_next prints_equals (λ (e : Unit {0}).
     as_next (prints_flag words.Internal refl (linkage false) quiet_linkage) (λ (is : Bool).
@@ -216,17 +216,17 @@ declared_with w o (Definition f) = []
 abbrev no_word : Bool → Bool
 no_word b = false
 
-declared_is : (w : Word) (o : Option Word) (f : SymId) → declared_with w o (Declared (record { place = nowhere; name = f })) ≡ (((marks.Word words.Declare ∷ []) ++ marks.Word w ∷ []) ++ marks.Symbol f ∷ []) ++ in_round (one_or_none o)
+declared_is : (w : Word) (o : Option Word) (f : SymId) → declared_with w o (Declared (record { place = no_place; name = f })) ≡ (((marks.Word words.Declare ∷ []) ++ marks.Word w ∷ []) ++ marks.Symbol f ∷ []) ++ in_round (one_or_none o)
 declared_is w o f = refl
 
 prints_declaration : (n : Tables) (noinline : List (List ℕ)) (w : Word) (o : Option Word) → IsOrdinary o → IndexedTables n → PrintsAs false n (image_of noinline) declaration printed_declaration [] (declared_with w o)
 unfolding declaration
 prints_declaration n noinline w o h i =
-    as_then (λ (x : Unit {0}). skip before_name (expect before_name) >>= λ s. global >>= λ f. group 40 41 >>= λ g. ret (Declared (record { place = nowhere; name = f })))
+    as_then (λ (x : Unit {0}). skip before_name (expect before_name) >>= λ s. global >>= λ f. group 40 41 >>= λ g. ret (Declared (record { place = no_place; name = f })))
     (as_located (as_it_is (prints_expect declare_word (marks.Word words.Declare) (tokens.Word (codes "declare")) refl tt refl refl))) (λ (x : Place × Unit {0}).
     as_next (prints_quiet {all = λ e. marks.Word w ∷ []} (skip before_name (expect before_name)) (quiet_skip before_name (quiet_token _)) (λ s u a t r sound. reprinted_before_name false n w s)) (λ (s : Unit {0}).
     as_next (prints_global i) (λ (f : SymId).
-    as_then {first = no_word} {own = λ b. in_round (one_or_none o)} (λ (g : Bool). ret (Declared (record { place = nowhere; name = f }))) (as_quiet {image = no_word} (group 40 41) (quiet_group 40 41) (λ s u a t r sound. reprinted_group false n o h s)) (λ (g : Bool).
+    as_then {first = no_word} {own = λ b. in_round (one_or_none o)} (λ (g : Bool). ret (Declared (record { place = no_place; name = f }))) (as_quiet {image = no_word} (group 40 41) (quiet_group 40 41) (λ s u a t r sound. reprinted_group false n o h s)) (λ (g : Bool).
     as_done refl (declared_is w o f)))))
 
 -- the words of a declared function's types are ordinary ones

@@ -14,7 +14,7 @@ use Rattle.ir_printer.proofs.Reprinting.{Indexed, Prints, prints_done, reprinted
 use Rattle.ir_printer.proofs.TokensReprinted.{Quiet}
 
 -- Of a form, read where these marks came before: names stay without repetition, the names before are among those
--- behind, and the image of what is read is reprinted, as a value of another form, by the marks that the image's own
+-- after, and the image of what is read is reprinted, as a value of another form, by the marks that the image's own
 -- marks have beside those before.
 pub record PrintsAs {A B : Type 0} (inside : Bool) (n : Tables) (image : A → B) (f : Form A) (g : Form B) (before : List Mark) (all : B → List Mark) : Type 0 where
   pub indexed : (s : Names) (u : List Piece) (a : A) (t : Names) → f.reads s u a t → Indexed s → Indexed t
@@ -154,8 +154,8 @@ laid_out inside n (marks.Opening x) e s = absurd cc
 laid_out inside n (marks.Joined x) e s = absurd cc
 
 -- a line begins before what is reprinted
-pub reprinted_behind_layout : {A : Type 0} (inside : Bool) (n : Tables) (m : Mark) → is_layout m ≡ true → (g : Form A) (s : Names) (a : A) (t : Names) (ms : List Mark) → IsReprinted inside n g s a t ms → IsReprinted inside n g s a t (m ∷ ms)
-reprinted_behind_layout {A = A} inside n m e g s a t ms h =
+pub reprinted_after_layout : {A : Type 0} (inside : Bool) (n : Tables) (m : Mark) → is_layout m ≡ true → (g : Form A) (s : Names) (a : A) (t : Names) (ms : List Mark) → IsReprinted inside n g s a t ms → IsReprinted inside n g s a t (m ∷ ms)
+reprinted_after_layout {A = A} inside n m e g s a t ms h =
     reprinted_in inside n (nothing >>= λ (x : Unit {0}). g) g back s a t (m ∷ ms) (reprinted_then inside n nothing (λ (x : Unit {0}). g) s tt s a t (m ∷ []) ms (laid_out inside n m e s) h)
   where
     back : (s : Names) (u : List Piece) (a : A) (t : Names) → (nothing >>= λ (x : Unit {0}). g).reads s u a t → g.reads s u a t
@@ -167,7 +167,7 @@ pub as_line : {A B : Type 0} {inside : Bool} {n : Tables} {image : A → B} {f :
 as_line {inside = inside} {n = n} {image = image} {g = g} {before = before} m e p = record {
   indexed = p.indexed;
   fronts = p.fronts;
-  prints = λ s u a t r front sound. (let h = p.prints s u a t r front sound in (m ∷ h.0, h.1 ∙ append_assoc before (m ∷ []) h.0, reprinted_behind_layout inside n m e g s (image a) t h.0 h.2));
+  prints = λ s u a t r front sound. (let h = p.prints s u a t r front sound in (m ∷ h.0, h.1 ∙ append_assoc before (m ∷ []) h.0, reprinted_after_layout inside n m e g s (image a) t h.0 h.2));
 }
 
 -- ---- rounds
@@ -185,7 +185,7 @@ module _ {X X2 Y Y2 : Type 0} (inside : Bool) (n : Tables) (image : Y → Y2) (z
     (so_far : X2 → List Mark) (all : Y2 → List Mark) (Stands : X → X2 → Type 0)
     (more : (x : X) (x2 : X2) (s : Names) (u : List Piece) (x1 : X) (t : Names) → Stands x x2 → (go x).reads s u x1 t → (Stands x1 x2 × (s ≡ t)) ⊎ Round inside n go2 so_far Stands s u x2 x1 t)
     (last : (x : X) (x2 : X2) → Stands x x2 → PrintsAs inside n image (stop x) (stop2 x2) (so_far x2) all) where
-  -- what is said of some rounds and the end behind them
+  -- what is said of some rounds and the end after them
   record Read (x2 : X2) (s : Names) (u : List Piece) (y : Y) (t : Names) : Type 0 where
     indexed : Indexed s → Indexed t
     fronts : Front inside n t → Front inside n s
@@ -228,8 +228,8 @@ module _ {X X2 Y Y2 : Type 0} (inside : Bool) (n : Tables) (image : Y → Y2) (z
             prints = λ f sound.
                 (let both = subst AreSound r.4 sound in
                 let one = q.prints (h.fronts f) (sound_first r.2 r.3 both) in
-                let behind = h.prints f (sound_last r.2 r.3 both) in
-                (one.0 ++ behind.0, behind.1 ∙ ap (λ (ms : List Mark). ms ++ behind.0) one.1 ∙ append_assoc (so_far x2) one.0 behind.0, one_more x2 q.state s r.1 (image y) t one.0 behind.0 one.2 behind.2));
+                let after = h.prints f (sound_last r.2 r.3 both) in
+                (one.0 ++ after.0, after.1 ∙ ap (λ (ms : List Mark). ms ++ after.0) one.1 ∙ append_assoc (so_far x2) one.0 after.0, one_more x2 q.state s r.1 (image y) t one.0 after.0 one.2 after.2));
           }
 
   in_rounds : (z : X → Set) (x : X) (x2 : X2) → Stands x x2 → PrintsAs inside n image (rounds z go stop x) (rounds z2 go2 stop2 x2) (so_far x2) all

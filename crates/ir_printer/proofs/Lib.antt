@@ -33,7 +33,7 @@ mod LinesReprinted
 mod LinesReread
 mod PrintedBack
 mod EndsReprinted
-mod BlocksBehind
+mod BlocksAfter
 mod BlocksReprinted
 mod BodiesReprinted
 mod BodiesReread

@@ -36,7 +36,7 @@ use Rattle.ir_printer.proofs.LocalsReprinted.{prints_define, prints_next_local}
 use Rattle.ir_printer.proofs.ArgumentsReprinted.{prints_arguments}
 use Rattle.ir_printer.proofs.OperationsReprinted.{prints_store}
 use Rattle.ir_printer.proofs.CallsReprinted.{prints_callee, quiet_call_end, prints_op, prints_call_words}
-use Rattle.ir_printer.proofs.Images.{reprinted_behind_layout, Round, as_done, as_rounds}
+use Rattle.ir_printer.proofs.Images.{reprinted_after_layout, Round, as_done, as_rounds}
 use Rattle.ir_printer.proofs.PrintedForms.{printed_named, printed_store, printed_call, printed_line, line_marks, unplaced_line, IsPrintedLine, PrintsLines, PrintsCode}
 use Rattle.ir_printer.proofs.CallLines.{void_call, next_line, reads_call}
 
@@ -164,7 +164,7 @@ abbrev pub next_printed : Limits → List Instr → Form (List Instr)
 next_printed l is = printed_line l >>= λ x. ret (is ++ unplaced_line x ∷ [])
 
 printed_more : (n : Tables) (l : Limits) (is : List Instr) (s : Names) (y : Option LocalId × Op) (t : Names) → IsReprinted true n (printed_line l) s y t (line_marks y) → IsReprinted true n (next_printed l is) s (is ++ unplaced_line y ∷ []) t (instr_marks (unplaced_line y))
-printed_more n l is s y t h = reprinted_behind_layout true n marks.Indented refl (next_printed l is) s (is ++ unplaced_line y ∷ []) t (line_marks y) (record {
+printed_more n l is s y t h = reprinted_after_layout true n marks.Indented refl (next_printed l is) s (is ++ unplaced_line y ∷ []) t (line_marks y) (record {
   ready = h.ready;
   counted = h.counted;
   spellable = h.spellable;

@@ -1,4 +1,4 @@
--- Items and then notes, each behind a comma: the items are printed.
+-- Items and then notes, each after a comma: the items are printed.
 use Rattle.std.proofs.Common.{◌≡◌, ◌⊎◌, inl, inr, refl, sym, ap, ◌∙◌, subst, ℕ, zero, suc, Bool, true, false, List, [], ◌∷◌, ◌++◌}
 use Rattle.std.proofs.lemmas.List.{append_assoc, append-nil}
 use Rattle.ir_grammar.specs.Pieces.{Piece}
@@ -89,7 +89,7 @@ module _ {A : Type 0} (inside : Bool) (n : Tables) (f : Form A) (own : A → Lis
     },
   ))
 
-  -- an item and those behind it are items
+  -- an item and those after it are items
   joined : (xs : List A) (s : Names) (u : List Piece) (ys : List A) (t : Names) → ((item xs) >>= λ x. items_and_notes f x.1).reads s u ys t → (items_and_notes f xs).reads s u ys t
   joined xs s u ys t r =
       let first = r.5 in

@@ -6,20 +6,20 @@ use Rattle.ir_grammar.specs.Pieces.{Piece}
 use Rattle.ir_grammar.specs.Names.{Names}
 use Rattle.ir_grammar.specs.Sets.{Set}
 use Rattle.ir_grammar.specs.Forms.{Form, act, ret, ◌>>=◌}
-use Rattle.ir_grammar.specs.Tokens.{sign, text, behind_comma, many, listed}
+use Rattle.ir_grammar.specs.Tokens.{sign, text, after_comma, many, listed}
 use Rattle.ir_printer.specs.declared.marks.Mark.{Mark}
 use Rattle.ir_printer.specs.Layout.{Tables}
-use Rattle.ir_printer.specs.Marks.{comma, separated, behind_commas}
-use Rattle.ir_printer.specs.Marks.{behind_comma as with_comma}
+use Rattle.ir_printer.specs.Marks.{comma, separated, after_commas}
+use Rattle.ir_printer.specs.Marks.{after_comma as with_comma}
 use Rattle.ir_printer.proofs.Reprinting.{Prints, prints_then, prints_done, prints_either, prints_as, prints_in, prints_from}
 use Rattle.ir_printer.proofs.RoundsReprinted.{prints_rounds}
 use Rattle.ir_printer.proofs.TokensReprinted.{prints_comma, prints_mapped, AsActs}
 
 -- ---- marks
 
-pub commas_more : {A : Type 0} (own : A → List Mark) (xs : List A) (x : A) → behind_commas (map own (xs ++ x ∷ [])) ≡ behind_commas (map own xs) ++ comma ∷ own x
+pub commas_more : {A : Type 0} (own : A → List Mark) (xs : List A) (x : A) → after_commas (map own (xs ++ x ∷ [])) ≡ after_commas (map own xs) ++ comma ∷ own x
 commas_more own [] x = append-nil (comma ∷ own x)
-commas_more own (y ∷ ys) x = ap (λ (ms : List Mark). with_comma (own y) ++ ms) (commas_more own ys x) ∙ sym (append_assoc (with_comma (own y)) (behind_commas (map own ys)) (comma ∷ own x))
+commas_more own (y ∷ ys) x = ap (λ (ms : List Mark). with_comma (own y) ++ ms) (commas_more own ys x) ∙ sym (append_assoc (with_comma (own y)) (after_commas (map own ys)) (comma ∷ own x))
 
 abbrev pub IsSome : {A : Type 0} → List A → Type 0
 IsSome [] = ⊥
@@ -31,22 +31,22 @@ some_more (y ∷ ys) x = tt
 
 pub separated_more : {A : Type 0} (own : A → List Mark) (xs : List A) (x : A) → IsSome xs → separated (map own (xs ++ x ∷ [])) ≡ separated (map own xs) ++ comma ∷ own x
 separated_more own [] x h = absurd h
-separated_more own (y ∷ ys) x h = ap (λ (ms : List Mark). own y ++ ms) (commas_more own ys x) ∙ sym (append_assoc (own y) (behind_commas (map own ys)) (comma ∷ own x))
+separated_more own (y ∷ ys) x h = ap (λ (ms : List Mark). own y ++ ms) (commas_more own ys x) ∙ sym (append_assoc (own y) (after_commas (map own ys)) (comma ∷ own x))
 
 -- ---- forms
 
-pub prints_behind : {A : Type 0} {inside : Bool} {n : Tables} {f f2 : Form A} {own : A → List Mark} → Prints inside n f f2 [] own → Prints inside n (behind_comma f) (behind_comma f2) [] (λ a. comma ∷ own a)
-prints_behind h = prints_then prints_comma (λ (c : Unit {0}). prints_as h (λ a. refl))
+pub prints_beyond : {A : Type 0} {inside : Bool} {n : Tables} {f f2 : Form A} {own : A → List Mark} → Prints inside n f f2 [] own → Prints inside n (after_comma f) (after_comma f2) [] (λ a. comma ∷ own a)
+prints_beyond h = prints_then prints_comma (λ (c : Unit {0}). prints_as h (λ a. refl))
 
--- parts, each behind a comma
-pub prints_commas : {A : Type 0} {inside : Bool} {n : Tables} {f f2 : Form A} (own : A → List Mark) → Prints inside n f f2 [] own → Prints inside n (many (sign 44) (behind_comma f) []) (many (sign 44) (behind_comma f2) []) [] (λ xs. behind_commas (map own xs))
-prints_commas {A = A} own h = prints_rounds (λ xs. sign 44) (λ xs. behind_commas (map own xs)) (λ xs. Unit {0}) (λ x s u x1 s1 ok r. tt) (λ xs ok. prints_then (prints_behind h) (λ (x : A). prints_done (commas_more own xs x))) (λ xs ok. prints_done refl) [] tt
+-- parts, each after a comma
+pub prints_commas : {A : Type 0} {inside : Bool} {n : Tables} {f f2 : Form A} (own : A → List Mark) → Prints inside n f f2 [] own → Prints inside n (many (sign 44) (after_comma f) []) (many (sign 44) (after_comma f2) []) [] (λ xs. after_commas (map own xs))
+prints_commas {A = A} own h = prints_rounds (λ xs. sign 44) (λ xs. after_commas (map own xs)) (λ xs. Unit {0}) (λ x s u x1 s1 ok r. tt) (λ xs ok. prints_then (prints_beyond h) (λ (x : A). prints_done (commas_more own xs x))) (λ xs ok. prints_done refl) [] tt
 
--- parts behind a first one
-pub prints_after : {A : Type 0} {inside : Bool} {n : Tables} {f f2 : Form A} (own : A → List Mark) (a : A) → Prints inside n f f2 [] own → Prints inside n (many (sign 44) (behind_comma f) (a ∷ [])) (many (sign 44) (behind_comma f2) (a ∷ [])) (own a) (λ xs. separated (map own xs))
+-- parts after a first one
+pub prints_after : {A : Type 0} {inside : Bool} {n : Tables} {f f2 : Form A} (own : A → List Mark) (a : A) → Prints inside n f f2 [] own → Prints inside n (many (sign 44) (after_comma f) (a ∷ [])) (many (sign 44) (after_comma f2) (a ∷ [])) (own a) (λ xs. separated (map own xs))
 prints_after {A = A} {inside = inside} {n = n} {f = f} {f2 = f2} own a h =
-    subst (λ (before : List Mark). Prints inside n (many (sign 44) (behind_comma f) (a ∷ [])) (many (sign 44) (behind_comma f2) (a ∷ [])) before (λ xs. separated (map own xs))) (append-nil (own a))
-    (prints_rounds (λ xs. sign 44) (λ xs. separated (map own xs)) IsSome (λ x s u x1 s1 ok r. subst IsSome (ap (λ (y : List A × Names). y.0) r.6.1) (some_more x r.0)) (λ xs ok. prints_then (prints_behind h) (λ (x : A). prints_done (separated_more own xs x ok))) (λ xs ok. prints_done refl) (a ∷ []) tt)
+    subst (λ (before : List Mark). Prints inside n (many (sign 44) (after_comma f) (a ∷ [])) (many (sign 44) (after_comma f2) (a ∷ [])) before (λ xs. separated (map own xs))) (append-nil (own a))
+    (prints_rounds (λ xs. sign 44) (λ xs. separated (map own xs)) IsSome (λ x s u x1 s1 ok r. subst IsSome (ap (λ (y : List A × Names). y.0) r.6.1) (some_more x r.0)) (λ xs ok. prints_then (prints_beyond h) (λ (x : A). prints_done (separated_more own xs x ok))) (λ xs ok. prints_done refl) (a ∷ []) tt)
 
 pub prints_listed : {A : Type 0} {inside : Bool} {n : Tables} {f f2 : Form A} (z : Set) (own : A → List Mark) → Prints inside n f f2 [] own → Prints inside n (listed z f) (listed z f2) [] (λ xs. separated (map own xs))
 prints_listed {A = A} z own h = prints_either z (prints_then h (λ (a : A). prints_after own a h)) (prints_done refl)

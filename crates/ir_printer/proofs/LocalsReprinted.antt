@@ -20,7 +20,7 @@ use Rattle.ir_printer.specs.declared.marks.Mark.TheVariants as marks
 use Rattle.ir_printer.specs.Layout.{Tables, name_at}
 use Rattle.std.specs.Char.{is_ascii_digit}
 use Rattle.ir_printer.specs.Tokens.{is_byte, tokens_of, Are, IsName, AreSpellable}
-use Rattle.ir_printer.specs.Reprints.{Counts, counts, behind, AreReady, Front, IsSound, AreSound, IsReprinted}
+use Rattle.ir_printer.specs.Reprints.{Counts, counts, after, AreReady, Front, IsSound, AreSound, IsReprinted}
 use Rattle.ir_printer.proofs.Strings.{both, lt_true}
 use Rattle.ir_printer.proofs.Digits.{decimal_digits, decimal_some}
 use Rattle.ir_printer.proofs.Positions.{IsIndexed, IsNamed, is_named, is_again, numbered_indexed}
@@ -68,9 +68,9 @@ ready_mark : (w : Use) (c : Counts) (x : LocalId) → AreReady c (mark_of w x) �
 ready_mark AsLocal c x h = h.0
 ready_mark AsLabel c x h = h.0
 
-mark_behind : (w : Use) (c : Counts) (x : LocalId) → behind c (mark_of w x) ≡ record c { locals = max c.locals (x.0 + 1) }
-mark_behind AsLocal c x = refl
-mark_behind AsLabel c x = refl
+mark_after : (w : Use) (c : Counts) (x : LocalId) → after c (mark_of w x) ≡ record c { locals = max c.locals (x.0 + 1) }
+mark_after AsLocal c x = refl
+mark_after AsLabel c x = refl
 
 mark_spellable : (w : Use) (n : Tables) (x : LocalId) → IsName (name_at n.locals x.0) → AreSpellable n (mark_of w x)
 mark_spellable AsLocal n x h = (h, tt)
@@ -142,11 +142,11 @@ local_again n w h k i a within s2 us front next o =
 local_reprinted : (n : Tables) (w : Use) (h : List ℕ → Names → LocalId × Names) → ((name : List ℕ) → Numbers (h name) name) → IndexedTables n → (s : Names) (a : LocalId) (t : Names) (name : List ℕ) → IsLocal n s a t name → IsName name → IsReprinted true n (local_form w h) s a t (mark_of w a)
 local_reprinted n w h k i s a t name l sound = record {
   ready = mark_ready w (counts s) a l.named.next;
-  counted = same_counts s t (max (length s.locals) (a.0 + 1)) l.symbols l.types l.named.longer ∙ sym (mark_behind w (counts s) a);
+  counted = same_counts s t (max (length s.locals) (a.0 + 1)) l.symbols l.types l.named.longer ∙ sym (mark_after w (counts s) a);
   spellable = mark_spellable w n a (subst IsName (sym l.named.named) sound);
   rereads = λ s2 us front ready are.
       (let r = local_again n w h k i a l.named.within s2 us front (ready_mark w (counts s2) a ready) (one_piece (token_of w (name_at n.locals a.0)) us (subst (λ (ts : List Token). Are us ts) (mark_tokens w n a) are)) in
-      (r.0, r.1, r.2, r.3 ∙ sym (mark_behind w (counts s2) a)));
+      (r.0, r.1, r.2, r.3 ∙ sym (mark_after w (counts s2) a)));
 }
 
 name_sound : (w : Use) (u u1 u2 : List Piece) (q : Spot) (name : List ℕ) → u ≡ u1 ++ u2 → u1 ≡ Is q ∷ [] → q.token ≡ token_of w name → AreSound u → IsName name

@@ -30,7 +30,7 @@ use Rattle.ir_printer.specs.declared.marks.Sign.TheVariants as signs
 use Rattle.ir_printer.specs.declared.marks.Mark.{Mark}
 use Rattle.ir_printer.specs.declared.marks.Mark.TheVariants as marks
 use Rattle.ir_printer.specs.Layout.{Tables}
-use Rattle.ir_printer.specs.Marks.{comma, separated, behind_commas, type_marks, value_marks, typed_marks, align_marks, alloca_count_marks, pair_marks, op_marks}
+use Rattle.ir_printer.specs.Marks.{comma, separated, after_commas, type_marks, value_marks, typed_marks, align_marks, alloca_count_marks, pair_marks, op_marks}
 use Rattle.ir_printer.proofs.Reprinting.{IndexedTables, Prints, prints_then, prints_joined, prints_done, prints_either, prints_cases, prints_in, prints_from}
 use Rattle.ir_printer.proofs.LocalsReprinted.{prints_local}
 use Rattle.ir_printer.proofs.TokensReprinted.{Quiet, prints_expect, prints_comma, prints_table, prints_number, prints_past, prints_nothing}
@@ -42,7 +42,7 @@ use Rattle.ir_printer.proofs.QuietForms.{quiet_token, quiet_ret, quiet_then, qui
 
 -- ---- what is said of forms with a choice in them
 
--- a choice behind a form is a choice of two forms
+-- a choice after a form is a choice of two forms
 cut_choice : {A B : Type 0} (z : Set) (f : Form A) (g h : A → Form B) (s : Names) (u : List Piece) (b : B) (t : Names) → (f >>= λ a. either z (g a) (h a)).reads s u b t → (either z (f >>= g) (f >>= h)).reads s u b t
 cut_choice {A = A} {B = B} z f g h s u b t r = at r.6
   where
@@ -50,7 +50,7 @@ cut_choice {A = A} {B = B} z f g h s u b t r = at r.6
     at (inl k) = inl (r.0, r.1, r.2, r.3, r.4, r.5, k)
     at (inr k) = inr (r.0, r.1, r.2, r.3, r.4, r.5, k)
 
--- notes behind the last part
+-- notes after the last part
 pub prints_noted : {A : Type 0} {inside : Bool} {n : Tables} {a : A} {before : List Mark} {all : A → List Mark} → all a ≡ before → Prints inside n (notes >>= λ e. ret a) (notes >>= λ e. ret a) before all
 prints_noted e = prints_past notes tt quiet_notes silent_notes (prints_done e)
 
@@ -173,15 +173,15 @@ prints_store i l =
 gep_op_marks_are : (w : Mark) (ts as' es : List Mark) → w ∷ (ts ++ (comma ∷ (as' ++ es))) ≡ ((((w ∷ []) ++ ts) ++ comma ∷ []) ++ as') ++ es
 gep_op_marks_are w ts as' es = simp append_assoc
 
--- what stands behind the word
+-- what stands after the word
 pub prints_gep_op_rest : {n : Tables} → IndexedTables n → (l : Limits) → Prints true n (gep_op_rest l) (gep_op_rest l) (marks.Word words.GetElementPtr ∷ []) op_marks
 unfolding gep_op_rest
 prints_gep_op_rest {n = n} i l =
     prints_then (prints_type_form i l) (λ (t : IrType).
     prints_then prints_comma (λ (c : Unit {0}).
     prints_then (prints_typed i l) (λ (a : TypedOperand).
-    prints_then (prints_listing true n (typed l) typed_marks (prints_typed i l) (λ xs. behind_commas (map typed_marks xs)) (λ xs. Unit {0}) (λ xs x. tt) (λ xs x ok. commas_more typed_marks xs x) [] tt) (λ (is : List TypedOperand).
-    prints_done (gep_op_marks_are (marks.Word words.GetElementPtr) (type_marks t) (typed_marks a) (behind_commas (map typed_marks is)))))))
+    prints_then (prints_listing true n (typed l) typed_marks (prints_typed i l) (λ xs. after_commas (map typed_marks xs)) (λ xs. Unit {0}) (λ xs x. tt) (λ xs x ok. commas_more typed_marks xs x) [] tt) (λ (is : List TypedOperand).
+    prints_done (gep_op_marks_are (marks.Word words.GetElementPtr) (type_marks t) (typed_marks a) (after_commas (map typed_marks is)))))))
 
 pub prints_gep_op : {n : Tables} → IndexedTables n → (l : Limits) → Prints true n (gep_op l) (gep_op l) [] op_marks
 unfolding gep_op

@@ -81,7 +81,7 @@ not_lt m n h = grind (arith, nat_tests)
 lt_false : (m n : ℕ) → n ≤ m → nat_lt m n ≡ false
 lt_false m n h = grind (arith, nat_tests)
 
--- what is said of a name that appears among those that begin a list: its position, and the names behind it
+-- what is said of a name that appears among those that begin a list: its position, and the names after it
 pub record IsNamed (all order : List (List ℕ)) (k : ℕ) (name : List ℕ) (more : List (List ℕ)) : Type 0 where
   pub next : k ≤ length order
   pub within : k < length all
@@ -113,7 +113,7 @@ named_by all order rest name false e h =
       front = (name ∷ rest, refl);
     })
 
--- a name that appears, where the names behind it begin a list
+-- a name that appears, where the names after it begin a list
 pub is_named : (all order : List (List ℕ)) (name : List ℕ) → Begins all (numbered name order).1 → IsNamed all order (numbered name order).0 name (numbered name order).1
 is_named all order name b =
     subst (λ (r : ℕ × List (List ℕ)). IsNamed all order r.0 name r.1) (sym (is_numbered name order))

@@ -16,14 +16,14 @@ use Rattle.ir_printer.specs.declared.words.Word.{Word}
 use Rattle.ir_printer.specs.declared.words.Word.TheVariants as words
 use Rattle.ir_printer.specs.declared.demands.Known.{Known}
 use Rattle.ir_printer.specs.Layout.{Tables, tables}
-use Rattle.ir_printer.specs.Order.{known_behind, no_demand, nothing_known, turns, count, order}
+use Rattle.ir_printer.specs.Order.{known_beyond, no_demand, nothing_known, turns, count, order}
 use Rattle.ir_printer.specs.Printed.{Entity, TargetLine, DefinedType, Variable, Definition, Declared, Left, placed, target_line, printed}
 use Rattle.ir_printer.specs.Reprints.{Front}
 use Rattle.ir_printer.proofs.Positions.{IsIndexed, none_indexed, all_names}
 use Rattle.ir_printer.proofs.PrintedForms.{known, PrintsEntities, RereadsEntities}
 use Rattle.ir_printer.proofs.EntityOrder.{type_in, global_in, func_in, declared_in, left_of, same_left, demands_left, IsPart, Fitted, known_after, Ordered, in_order}
 use Rattle.ir_printer.proofs.SoundPieces.{are_bytes, pieces_sound}
-use Rattle.ir_printer.proofs.TextsRead.{HasRead, text_read, parts_of, IsPrintable, AreReprinted, read_indexed, read_reprinted, layout_behind, triple_behind, assembled, module_read}
+use Rattle.ir_printer.proofs.TextsRead.{HasRead, text_read, parts_of, IsPrintable, AreReprinted, read_indexed, read_reprinted, layout_after, triple_after, assembled, module_read}
 use Rattle.ir_printer.proofs.TextsReread.{PiecesAre, page_pieces, Reread, reread}
 use Rattle.ir_printer.proofs.PrintedUnplaced.{printed_unplaced}
 use Rattle.ir_printer.proofs.DemandsReady.{max_zero}
@@ -68,7 +68,7 @@ abbrev known_of : ℕ → ℕ → Known
 known_of symbols types = record { symbols = symbols; types = types }
 
 -- a line without names
-no_more_known : (k : Known) → known_behind k no_demand ≡ k
+no_more_known : (k : Known) → known_beyond k no_demand ≡ k
 no_more_known k = ap₂ known_of (max_zero k.symbols) (max_zero k.types)
 
 fitted_alone : (symbols : List (List ℕ)) (es : List Entity) (k : Known) → Fitted symbols k es → Fitted symbols k (alone es)
@@ -89,11 +89,11 @@ known_alone symbols (Declared d ∷ es) k = known_alone symbols es _
 
 -- ---- the lines of the layout and of the triple
 
-layout_step : (o : Option (List ℕ)) (e : Entity) → (layout_behind o e ≡ o) ⊎ ((said : List ℕ) × (e ≡ TargetLine words.DataLayout said) × (layout_behind o e ≡ Some said))
+layout_step : (o : Option (List ℕ)) (e : Entity) → (layout_after o e ≡ o) ⊎ ((said : List ℕ) × (e ≡ TargetLine words.DataLayout said) × (layout_after o e ≡ Some said))
 layout_step o (TargetLine words.DataLayout said) = inr (said, refl, refl)
 layout_step o e = inl refl
 
-triple_step : (o : Option (List ℕ)) (e : Entity) → (triple_behind o e ≡ o) ⊎ ((said : List ℕ) × (e ≡ TargetLine words.Triple said) × (triple_behind o e ≡ Some said))
+triple_step : (o : Option (List ℕ)) (e : Entity) → (triple_after o e ≡ o) ⊎ ((said : List ℕ) × (e ≡ TargetLine words.Triple said) × (triple_after o e ≡ Some said))
 triple_step o (TargetLine words.Triple said) = inr (said, refl, refl)
 triple_step o e = inl refl
 
@@ -147,23 +147,23 @@ module _ (symbols : List (List ℕ)) (P : Entity → Type 0) (layout triple : Op
   parts_line w None xs = refl
   parts_line w (Some said) xs = refl
 
-  layout_line : Every IsPart es → fold layout_behind None lines_first ≡ layout
+  layout_line : Every IsPart es → fold layout_after None lines_first ≡ layout
   layout_line h = at layout triple
     where
-      at : (l t : Option (List ℕ)) → fold layout_behind None (target_line words.DataLayout l ++ (target_line words.Triple t ++ es)) ≡ l
-      at None None = past_parts layout_behind words.DataLayout layout_step es None h
-      at None (Some y) = past_parts layout_behind words.DataLayout layout_step es None h
-      at (Some x) None = past_parts layout_behind words.DataLayout layout_step es (Some x) h
-      at (Some x) (Some y) = past_parts layout_behind words.DataLayout layout_step es (Some x) h
+      at : (l t : Option (List ℕ)) → fold layout_after None (target_line words.DataLayout l ++ (target_line words.Triple t ++ es)) ≡ l
+      at None None = past_parts layout_after words.DataLayout layout_step es None h
+      at None (Some y) = past_parts layout_after words.DataLayout layout_step es None h
+      at (Some x) None = past_parts layout_after words.DataLayout layout_step es (Some x) h
+      at (Some x) (Some y) = past_parts layout_after words.DataLayout layout_step es (Some x) h
 
-  triple_line : Every IsPart es → fold triple_behind None lines_first ≡ triple
+  triple_line : Every IsPart es → fold triple_after None lines_first ≡ triple
   triple_line h = at layout triple
     where
-      at : (l t : Option (List ℕ)) → fold triple_behind None (target_line words.DataLayout l ++ (target_line words.Triple t ++ es)) ≡ t
-      at None None = past_parts triple_behind words.Triple triple_step es None h
-      at None (Some y) = past_parts triple_behind words.Triple triple_step es (Some y) h
-      at (Some x) None = past_parts triple_behind words.Triple triple_step es None h
-      at (Some x) (Some y) = past_parts triple_behind words.Triple triple_step es (Some y) h
+      at : (l t : Option (List ℕ)) → fold triple_after None (target_line words.DataLayout l ++ (target_line words.Triple t ++ es)) ≡ t
+      at None None = past_parts triple_after words.Triple triple_step es None h
+      at None (Some y) = past_parts triple_after words.Triple triple_step es (Some y) h
+      at (Some x) None = past_parts triple_after words.Triple triple_step es None h
+      at (Some x) (Some y) = past_parts triple_after words.Triple triple_step es (Some y) h
 
 -- ---- the module
 
@@ -190,10 +190,10 @@ module _ (n : Tables) (l : Limits) (es : List Entity) (t : Names) (tabled : (n.s
   P e = IsPrintable n l e
 
   abbrev layout : Option (List ℕ)
-  layout = fold layout_behind None es
+  layout = fold layout_after None es
 
   abbrev triple : Option (List ℕ)
-  triple = fold triple_behind None es
+  triple = fold triple_after None es
 
   abbrev parts : List Entity
   parts = in_turn n.symbols (left_of es)
@@ -210,8 +210,8 @@ module _ (n : Tables) (l : Limits) (es : List Entity) (t : Names) (tabled : (n.s
 
   every : Every P all
   every =
-      every_line n.symbols P layout triple parts words.DataLayout layout (target_line words.Triple triple ++ parts) (was_there layout_behind words.DataLayout layout_step P es None read.each (none_said words.DataLayout))
-      (every_line n.symbols P layout triple parts words.Triple triple parts (was_there triple_behind words.Triple triple_step P es None read.each (none_said words.Triple)) ordered.every)
+      every_line n.symbols P layout triple parts words.DataLayout layout (target_line words.Triple triple ++ parts) (was_there layout_after words.DataLayout layout_step P es None read.each (none_said words.DataLayout))
+      (every_line n.symbols P layout triple parts words.Triple triple parts (was_there triple_after words.Triple triple_step P es None read.each (none_said words.Triple)) ordered.every)
 
   fitted : Fitted n.symbols nothing_known all
   fitted =
@@ -240,23 +240,23 @@ module _ (n : Tables) (l : Limits) (es : List Entity) (t : Names) (tabled : (n.s
   -- the printed text has a module, which is the same but for places
   text_back : (us : List Piece) → PiecesAre n us all → (m2 : modules.Module) × ReadsPieces l us m2 × (unplaced m2 ≡ assembled es t)
   unfolding text_form
-  text_back us p = (module_of (fold added no_entities q.entities) q.behind, (q.behind, (q.count, q.rounds)), same)
+  text_back us p = (module_of (fold added no_entities q.entities) q.after, (q.after, (q.count, q.rounds)), same)
     where
       q : Reread n l no_entities no_names us all
       q = reread n l again all no_entities no_names us room_for_all every fitted none_yet p
 
-      many : known q.behind ≡ known t
+      many : known q.after ≡ known t
       many = q.counted ∙ all_known
 
-      symbols : q.behind.symbols ≡ t.symbols
-      symbols = all_names q.behind.symbols q.front.0.0 n.symbols q.front.0.1 (ap (λ (l : Known). l.symbols) many ∙ ap length (sym tabled.0)) ∙ tabled.0
+      symbols : q.after.symbols ≡ t.symbols
+      symbols = all_names q.after.symbols q.front.0.0 n.symbols q.front.0.1 (ap (λ (l : Known). l.symbols) many ∙ ap length (sym tabled.0)) ∙ tabled.0
 
-      types : q.behind.types ≡ t.types
-      types = all_names q.behind.types q.front.1.0 n.types q.front.1.1 (ap (λ (l : Known). l.types) many ∙ ap length (sym tabled.1)) ∙ tabled.1
+      types : q.after.types ≡ t.types
+      types = all_names q.after.types q.front.1.0 n.types q.front.1.1 (ap (λ (l : Known). l.types) many ∙ ap length (sym tabled.1)) ∙ tabled.1
 
-      same : unplaced (module_of (fold added no_entities q.entities) q.behind) ≡ assembled es t
+      same : unplaced (module_of (fold added no_entities q.entities) q.after) ≡ assembled es t
       same =
-          module_read q.entities q.behind ∙ ap (λ (groups : List (List ℕ)). assembled (parts_of groups q.entities) q.behind) q.groups ∙ ap (λ (xs : List Entity). assembled xs q.behind) q.same
+          module_read q.entities q.after ∙ ap (λ (groups : List (List ℕ)). assembled (parts_of groups q.entities) q.after) q.groups ∙ ap (λ (xs : List Entity). assembled xs q.after) q.same
           ∙ same_made symbols types all_parts (layout_line n.symbols P layout triple parts ordered.part) (triple_line n.symbols P layout triple parts ordered.part)
 
 module _ (prints : (n : Tables) (l : Limits) (noinline : List (List ℕ)) → IsIndexed n.symbols → IsIndexed n.types → PrintsEntities n l noinline) (again : (l : Limits) → RereadsEntities l) where

@@ -12,7 +12,7 @@ use Rattle.ir_core.specs.declared.func.Instr.{Instr}
 use Rattle.ir_core.specs.declared.func.Block.{Block}
 use Rattle.ir_core.specs.declared.func.Param.{Param}
 use Rattle.ir_core.specs.declared.func.Func.{Func}
-use Rattle.ir_core.specs.Places.{nowhere, unplaced_instr, unplaced_block, unplaced_func, unplaced_type, unplaced_global, unplaced_declaration}
+use Rattle.ir_core.specs.Places.{no_place, unplaced_instr, unplaced_block, unplaced_func, unplaced_type, unplaced_global, unplaced_declaration}
 use Rattle.ir_grammar.specs.declared.kinds.Kind.TheVariants as kinds
 use Rattle.ir_grammar.specs.declared.parts.Progress.{Progress}
 use Rattle.ir_grammar.specs.declared.parts.Entity as read_entities
@@ -33,7 +33,7 @@ use Rattle.ir_printer.specs.declared.marks.Mark.{Mark}
 use Rattle.ir_printer.specs.declared.demands.Known.{Known}
 use Rattle.ir_printer.specs.Layout.{Tables, tables}
 use Rattle.ir_printer.specs.Marks.{result_marks, op_marks, instr_marks, body_marks}
-use Rattle.ir_printer.specs.Order.{demand, known_behind, fits}
+use Rattle.ir_printer.specs.Order.{demand, known_beyond, fits}
 use Rattle.ir_printer.specs.Printed.{Entity, TargetLine, DefinedType, Variable, Definition, Declared, entity_marks, locals_of}
 use Rattle.ir_printer.specs.Tokens.{tokens_of, Are, AreSpellable}
 use Rattle.ir_printer.specs.Reprints.{Front, AreSound, IsReprinted}
@@ -60,7 +60,7 @@ abbrev pub line_marks : Option LocalId × Op → List Mark
 line_marks x = result_marks x.0 ++ op_marks x.1
 
 abbrev pub unplaced_line : Option LocalId × Op → Instr
-unplaced_line x = record { place = nowhere; result = x.0; op = x.1 }
+unplaced_line x = record { place = no_place; result = x.0; op = x.1 }
 
 abbrev pub printed_code : Limits → List Instr → Form (List Instr)
 printed_code l = rounds (λ is. line_set) (λ is. printed_line l >>= λ x. ret (is ++ unplaced_line x ∷ [])) (λ is. ret is)
@@ -71,15 +71,15 @@ printed_code l = rounds (λ is. line_set) (λ is. printed_line l >>= λ x. ret (
 abbrev pub printed_ret : Limits → Form End
 printed_ret l = expect (word (codes "ret")) >>= λ w. either void_word (expect void_word >>= λ v. ret (ends.Ret None)) (value_type l >>= λ t. value l >>= λ v. ret (ends.Ret (Some (record { ty = t; value = v }))))
 
--- a terminator; behind `ret void` no note stands, since none may stand before its value
+-- a terminator; after `ret void` no note stands, since none may stand before its value
 abbrev pub printed_end : Limits → Form End
 printed_end l = either (word (codes "ret")) (printed_ret l) (either (word (codes "br")) (br_end l) (either (word (codes "switch")) (switch_end l) unreachable_end))
 
 -- LABEL, lines and a terminator
 abbrev pub printed_block : Limits → Form Block
-printed_block l = text kinds.Label >>= λ n. act (define n) >>= λ b. printed_code l [] >>= λ is. printed_end l >>= λ e. ret (record { place = nowhere; label = b; code = is; end = e; end_place = nowhere })
+printed_block l = text kinds.Label >>= λ n. act (define n) >>= λ b. printed_code l [] >>= λ is. printed_end l >>= λ e. ret (record { place = no_place; label = b; code = is; end = e; end_place = no_place })
 
--- a value may stand behind it
+-- a value may stand after it
 abbrev pub is_bare : End → Bool
 is_bare (ends.Ret None) = true
 is_bare e = false
@@ -121,7 +121,7 @@ printed_func l = do
   is_noinline ← may_stand (codes "noinline")
   bs ← printed_body l
   names ← act locals_so_far
-  ret (record { place = nowhere; name = f; internal = i; noinline = is_noinline; result = t; params = ps; locals = names; blocks = bs })
+  ret (record { place = no_place; name = f; internal = i; noinline = is_noinline; result = t; params = ps; locals = names; blocks = bs })
 
 -- ---- entities
 
@@ -132,7 +132,7 @@ abbrev pub printed_target : Form Entity
 printed_target = expect target_word >>= λ w. one_word line_words >>= λ x. equals >>= λ e. text kinds.Str >>= λ s. ret (TargetLine x s)
 
 abbrev pub printed_type : Limits → Form Entity
-printed_type l = text kinds.Local >>= λ n. act (type_name n) >>= λ x. equals >>= λ e. expect (word (codes "type")) >>= λ w. type_form l >>= λ t. ret (DefinedType (record { place = nowhere; name = x; ty = t }))
+printed_type l = text kinds.Local >>= λ n. act (type_name n) >>= λ x. equals >>= λ e. expect (word (codes "type")) >>= λ w. type_form l >>= λ t. ret (DefinedType (record { place = no_place; name = x; ty = t }))
 
 -- [ , align INT ]
 abbrev pub printed_align : Limits → Form (Option ℕ)
@@ -147,10 +147,10 @@ printed_global l = do
   t ← type_form l
   v ← init l
   a ← printed_align l
-  ret (Variable (record { place = nowhere; name = g; internal = i; constant = c; ty = t; init = v; align = a }))
+  ret (Variable (record { place = no_place; name = g; internal = i; constant = c; ty = t; init = v; align = a }))
 
 abbrev pub printed_declaration : Form Entity
-printed_declaration = expect declare_word >>= λ w. skip before_name (expect before_name) >>= λ s. global >>= λ f. group 40 41 >>= λ g. ret (Declared (record { place = nowhere; name = f }))
+printed_declaration = expect declare_word >>= λ w. skip before_name (expect before_name) >>= λ s. global >>= λ f. group 40 41 >>= λ g. ret (Declared (record { place = no_place; name = f }))
 
 abbrev pub printed_entity : Limits → Form Entity
 printed_entity l =
@@ -170,7 +170,7 @@ pub record IsPrintedLine (n : Tables) (l : Limits) (s : Names) (u : List Piece) 
 abbrev pub PrintsLines : Tables → Limits → Type 0
 PrintsLines n l = (s : Names) (u : List Piece) (x : Line) (t : Names) → (line l).reads s u x t → ((x ≡ None) × (s ≡ t)) ⊎ IsPrintedLine n l s u x t
 
--- instructions behind those that are there
+-- instructions after those that are there
 abbrev pub PrintsCode : Tables → Limits → Type 0
 PrintsCode n l = (is : List Instr) → PrintsAs true n (map unplaced_instr) (code l is) (printed_code l (map unplaced_instr is)) (flat_map instr_marks (map unplaced_instr is)) (flat_map instr_marks)
 
@@ -191,10 +191,10 @@ known s = record { symbols = length s.symbols; types = length s.types }
 -- stands, and its marks are read as it wherever that is so.
 pub record IsEntityReprinted (n : Tables) (l : Limits) (s : Names) (e : Entity) (t : Names) : Type 0 where
   pub fitting : fits (known s) (demand (entity_marks n.symbols e)) ≡ true
-  pub counted : known t ≡ known_behind (known s) (demand (entity_marks n.symbols e))
+  pub counted : known t ≡ known_beyond (known s) (demand (entity_marks n.symbols e))
   pub spellable : AreSpellable (tables n.symbols n.types (locals_of e)) (entity_marks n.symbols e)
   pub rereads : (s2 : Names) (us : List Piece) → Front false n s2 → fits (known s2) (demand (entity_marks n.symbols e)) ≡ true → Are us (tokens_of (tables n.symbols n.types (locals_of e)) (entity_marks n.symbols e)) →
-      (t2 : Names) × (printed_entity l).reads s2 us e t2 × Front false n t2 × (known t2 ≡ known_behind (known s2) (demand (entity_marks n.symbols e)))
+      (t2 : Names) × (printed_entity l).reads s2 us e t2 × Front false n t2 × (known t2 ≡ known_beyond (known s2) (demand (entity_marks n.symbols e)))
 
 -- what is printed of an entity that was read, where these groups of attributes have the word `noinline`
 abbrev pub printed_of : List (List ℕ) → read_entities.Entity → Option Entity
@@ -217,7 +217,7 @@ pub record IsReadEntity (n : Tables) (l : Limits) (noinline : List (List ℕ)) (
 abbrev pub PrintsEntities : Tables → Limits → List (List ℕ) → Type 0
 PrintsEntities n l noinline = (count : ℕ) (s : Names) (u : List Piece) (x : read_entities.Entity) (t : Names) → (entity l count).reads s u x t → IsReadEntity n l noinline s u x t
 
--- behind so many definitions there is room for an entity
+-- after so many definitions there is room for an entity
 abbrev pub HasRoom : Limits → ℕ → Entity → Type 0
 HasRoom l count (Definition f) = is_past l.functions (count + 1) ≡ false
 HasRoom l count e = Unit {0}

@@ -9,7 +9,7 @@ use Rattle.ir_grammar.specs.Pieces.{Piece}
 use Rattle.ir_grammar.specs.Names.{Names}
 use Rattle.ir_grammar.specs.Sets.{Set}
 use Rattle.ir_grammar.specs.Forms.{Form, ret, Verdict, token, ◌>>=◌, either, Rounds, rounds}
-use Rattle.ir_grammar.specs.Tokens.{expect, sign, kind, skip, behind_comma}
+use Rattle.ir_grammar.specs.Tokens.{expect, sign, kind, skip, after_comma}
 use Rattle.ir_grammar.specs.Groups.{inside, group}
 use Rattle.ir_grammar.specs.Values.{gep_flag, gep_flags}
 use Rattle.ir_grammar.specs.Attributes.{node, note_rest, note, notes, attribute_words, attribute_argument, attribute_value, attribute_set, attribute, one_mark, attribute_list}
@@ -74,16 +74,16 @@ pub quiet_note : Quiet note
 unfolding note
 quiet_note = quiet_then (quiet_token _) (λ (m : Unit {0}). quiet_note_rest)
 
-pub quiet_behind : {A : Type 0} {f : Form A} → Quiet f → Quiet (behind_comma f)
-quiet_behind h = quiet_then (quiet_token _) (λ (c : Unit {0}). h)
+pub quiet_after : {A : Type 0} {f : Form A} → Quiet f → Quiet (after_comma f)
+quiet_after h = quiet_then (quiet_token _) (λ (c : Unit {0}). h)
 
 pub quiet_notes : Quiet notes
 unfolding notes
-quiet_notes = quiet_skip (sign 44) (quiet_behind quiet_note)
+quiet_notes = quiet_skip (sign 44) (quiet_after quiet_note)
 
 pub silent_notes : Silent notes tt
 unfolding notes
-silent_notes = silent_skip (sign 44) (behind_comma note)
+silent_notes = silent_skip (sign 44) (after_comma note)
 
 -- ---- attributes
 

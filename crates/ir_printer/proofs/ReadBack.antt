@@ -19,6 +19,7 @@ use Rattle.ir_printer.proofs.BodiesReread.{rereads_body}
 use Rattle.ir_printer.proofs.EntitiesPrinted.{prints_entities}
 use Rattle.ir_printer.proofs.EntitiesReread.{rereads_entities}
 use Rattle.ir_printer.proofs.PrintedBack.{printed_back}
+use Rattle.ir_core.specs.declared.limits.TheConstants.{MOST_FUNCTIONS}
 
 -- a text that was read within these limits: the text of its module is read within them as the module, but for places
 back : (l : Limits) (m : modules.Module) (bytes : List ℕ) (read : modules.Module) → All (λ b. b < 256) bytes → ReadsPieces l (pieces bytes) read → AreSameButForPlaces read m → is_past l.functions (length m.funcs) ≡ false →
@@ -36,12 +37,12 @@ reads_back m h text e =
 pub within : (m : modules.Module) → IsReadable m → (text : List ℕ) → text ≡ printed m → (n : modules.Module) → ReadsWithinLimits text n → AreSameButForPlaces n m
 within m h text e n r = let b = reads_back m h text e in ap unplaced (one_module text n b.0 (limits_lifted (pieces text) n r) b.1) ∙ b.2
 
-few_enough : (k : ℕ) → k ≤ 4096 → nat_lt 4096 k ≡ false
+few_enough : (k : ℕ) → k ≤ MOST_FUNCTIONS → nat_lt MOST_FUNCTIONS k ≡ false
 few_enough k h = grind (arith, nat_tests)
 
 -- where a text within the limits has a module that is this one, the printed one has too
 pub stays_within : (m : modules.Module) → IsReadableWithinLimits m → (text : List ℕ) → text ≡ printed m → (n : modules.Module) × ReadsWithinLimits text n × AreSameButForPlaces n m
 stays_within m h text e =
     let many : length h.1.funcs ≡ length m.funcs = sym (length-map h.1.funcs unplaced_func) ∙ ap (λ (y : modules.Module). length y.funcs) h.4 ∙ length-map m.funcs unplaced_func in
-    let b = back stated m h.0 h.1 h.2 h.3 h.4 (few_enough (length m.funcs) (subst (λ (k : ℕ). k ≤ 4096) many (few_functions h.0 h.1 h.3))) in
+    let b = back stated m h.0 h.1 h.2 h.3 h.4 (few_enough (length m.funcs) (subst (λ (k : ℕ). k ≤ MOST_FUNCTIONS) many (few_functions h.0 h.1 h.3))) in
     (b.0, subst (λ (bs : List ℕ). ReadsWithinLimits bs b.0) (sym e) b.1, b.2)

@@ -11,7 +11,7 @@ use Rattle.ir_printer.specs.declared.marks.Mark.{Mark}
 use Rattle.ir_printer.specs.declared.marks.Mark.TheVariants as marks
 use Rattle.ir_printer.specs.Layout.{Tables}
 use Rattle.ir_printer.specs.Tokens.{tokens_of, Are, IsSpellable, AreSpellable}
-use Rattle.ir_printer.specs.Reprints.{Counts, counts, behind_mark, behind, IsReady, AreReady, Front, IsSound, AreSound, IsReprinted}
+use Rattle.ir_printer.specs.Reprints.{Counts, counts, after_mark, after, IsReady, AreReady, Front, IsSound, AreSound, IsReprinted}
 use Rattle.ir_printer.proofs.Positions.{IsIndexed}
 
 -- no name stands twice
@@ -23,7 +23,7 @@ abbrev pub IndexedTables : Tables → Type 0
 IndexedTables n = IsIndexed n.symbols × IsIndexed n.types × IsIndexed n.locals
 
 -- Of a form, read where these marks came before: names stay without repetition, the names before are among those
--- behind, and what is read is reprinted by the marks that its own marks have beside those before.
+-- after, and what is read is reprinted by the marks that its own marks have beside those before.
 pub record Prints {A : Type 0} (inside : Bool) (n : Tables) (f g : Form A) (before : List Mark) (all : A → List Mark) : Type 0 where
   pub indexed : (s : Names) (u : List Piece) (a : A) (t : Names) → f.reads s u a t → Indexed s → Indexed t
   pub fronts : (s : Names) (u : List Piece) (a : A) (t : Names) → f.reads s u a t → Front inside n t → Front inside n s
@@ -35,23 +35,23 @@ none_left [] h = refl
 none_left (Is p ∷ us) h = absurd h
 none_left (Bad p ∷ us) h = absurd h
 
--- ---- marks one behind the other
+-- ---- marks one after the other
 
-pub behind_both : (c : Counts) (xs ys : List Mark) → behind c (xs ++ ys) ≡ behind (behind c xs) ys
-behind_both c [] ys = refl
-behind_both c (x ∷ xs) ys = behind_both (behind_mark c x) xs ys
+pub after_both : (c : Counts) (xs ys : List Mark) → after c (xs ++ ys) ≡ after (after c xs) ys
+after_both c [] ys = refl
+after_both c (x ∷ xs) ys = after_both (after_mark c x) xs ys
 
-pub ready_both : (c : Counts) (xs ys : List Mark) → AreReady c xs → AreReady (behind c xs) ys → AreReady c (xs ++ ys)
+pub ready_both : (c : Counts) (xs ys : List Mark) → AreReady c xs → AreReady (after c xs) ys → AreReady c (xs ++ ys)
 ready_both c [] ys h k = k
-ready_both c (x ∷ xs) ys h k = (h.0, ready_both (behind_mark c x) xs ys h.1 k)
+ready_both c (x ∷ xs) ys h k = (h.0, ready_both (after_mark c x) xs ys h.1 k)
 
 pub ready_first : (c : Counts) (xs ys : List Mark) → AreReady c (xs ++ ys) → AreReady c xs
 ready_first c [] ys h = tt
-ready_first c (x ∷ xs) ys h = (h.0, ready_first (behind_mark c x) xs ys h.1)
+ready_first c (x ∷ xs) ys h = (h.0, ready_first (after_mark c x) xs ys h.1)
 
-pub ready_last : (c : Counts) (xs ys : List Mark) → AreReady c (xs ++ ys) → AreReady (behind c xs) ys
+pub ready_last : (c : Counts) (xs ys : List Mark) → AreReady c (xs ++ ys) → AreReady (after c xs) ys
 ready_last c [] ys h = h
-ready_last c (x ∷ xs) ys h = ready_last (behind_mark c x) xs ys h.1
+ready_last c (x ∷ xs) ys h = ready_last (after_mark c x) xs ys h.1
 
 pub spellable_both : (n : Tables) (xs ys : List Mark) → AreSpellable n xs → AreSpellable n ys → AreSpellable n (xs ++ ys)
 spellable_both n [] ys h k = k
@@ -67,7 +67,7 @@ sound_last [] v h = h
 sound_last (Is s ∷ u) v h = sound_last u v h.1
 sound_last (Bad e ∷ u) v h = sound_last u v h
 
--- the pieces of marks one behind the other
+-- the pieces of marks one after the other
 abbrev Cut : Tables → List Mark → List Mark → List Piece → Type 0
 Cut n xs ys us = (u v : List Piece) × (us ≡ u ++ v) × Are u (tokens_of n xs) × Are v (tokens_of n ys)
 
@@ -96,21 +96,21 @@ cut_pieces n (marks.Indented ∷ xs) ys us h = cut_pieces n xs ys us h
 
 -- ---- one form and then another
 
--- what is reprinted by marks, and what is reprinted behind it
+-- what is reprinted by marks, and what is reprinted after it
 pub reprinted_then : {A B : Type 0} (inside : Bool) (n : Tables) (f : Form A) (g : A → Form B) (s : Names) (a : A) (s1 : Names) (b : B) (t : Names) (xs ys : List Mark) →
     IsReprinted inside n f s a s1 xs → IsReprinted inside n (g a) s1 b t ys → IsReprinted inside n (f >>= g) s b t (xs ++ ys)
 reprinted_then {A = A} {B = B} inside n f g s a s1 b t xs ys hf hg = record {
   ready = ready_both (counts s) xs ys hf.ready (subst (λ (c : Counts). AreReady c ys) hf.counted hg.ready);
-  counted = hg.counted ∙ ap (λ (c : Counts). behind c ys) hf.counted ∙ sym (behind_both (counts s) xs ys);
+  counted = hg.counted ∙ ap (λ (c : Counts). after c ys) hf.counted ∙ sym (after_both (counts s) xs ys);
   spellable = spellable_both n xs ys hf.spellable hg.spellable;
   rereads = λ s2 us front ready are. again s2 us front ready (cut_pieces n xs ys us are);
 }
   where
-    again : (s2 : Names) (us : List Piece) → Front inside n s2 → AreReady (counts s2) (xs ++ ys) → Cut n xs ys us → (t2 : Names) × (f >>= g).reads s2 us b t2 × Front inside n t2 × (counts t2 ≡ behind (counts s2) (xs ++ ys))
+    again : (s2 : Names) (us : List Piece) → Front inside n s2 → AreReady (counts s2) (xs ++ ys) → Cut n xs ys us → (t2 : Names) × (f >>= g).reads s2 us b t2 × Front inside n t2 × (counts t2 ≡ after (counts s2) (xs ++ ys))
     again s2 us front ready c =
         let first = hf.rereads s2 c.0 front (ready_first (counts s2) xs ys ready) c.3 in
         let last = hg.rereads first.0 c.1 first.2 (subst (λ (k : Counts). AreReady k ys) (sym first.3) (ready_last (counts s2) xs ys ready)) c.4 in
-        (last.0, (a, first.0, c.0, c.1, c.2, first.1, last.1), last.2, last.3 ∙ ap (λ (k : Counts). behind k ys) first.3 ∙ sym (behind_both (counts s2) xs ys))
+        (last.0, (a, first.0, c.0, c.1, c.2, first.1, last.1), last.2, last.3 ∙ ap (λ (k : Counts). after k ys) first.3 ∙ sym (after_both (counts s2) xs ys))
 
 pub prints_then : {A B : Type 0} {inside : Bool} {n : Tables} {f f2 : Form A} {g g2 : A → Form B} {before : List Mark} {own : A → List Mark} {all : B → List Mark} →
     Prints inside n f f2 [] own → ((a : A) → Prints inside n (g a) (g2 a) (before ++ own a) all) → Prints inside n (f >>= g) (f2 >>= g2) before all
@@ -232,21 +232,21 @@ is_plain (marks.Local x) = false
 is_plain (marks.Label x) = false
 is_plain m = true
 
-plain_behind : (c : Counts) (m : Mark) → is_plain m ≡ true → behind_mark c m ≡ c
-plain_behind c (marks.Word w) h = refl
-plain_behind c (marks.Int i) h = refl
-plain_behind c (marks.Str said) h = refl
-plain_behind c (marks.CStr said) h = refl
-plain_behind c (marks.Symbol x) h = cc
-plain_behind c (marks.TypeName x) h = cc
-plain_behind c (marks.Local x) h = cc
-plain_behind c (marks.Label x) h = cc
-plain_behind c (marks.Spaced s) h = refl
-plain_behind c (marks.Closing s) h = refl
-plain_behind c (marks.Opening s) h = refl
-plain_behind c (marks.Joined s) h = refl
-plain_behind c marks.Line h = refl
-plain_behind c marks.Indented h = refl
+plain_after : (c : Counts) (m : Mark) → is_plain m ≡ true → after_mark c m ≡ c
+plain_after c (marks.Word w) h = refl
+plain_after c (marks.Int i) h = refl
+plain_after c (marks.Str said) h = refl
+plain_after c (marks.CStr said) h = refl
+plain_after c (marks.Symbol x) h = cc
+plain_after c (marks.TypeName x) h = cc
+plain_after c (marks.Local x) h = cc
+plain_after c (marks.Label x) h = cc
+plain_after c (marks.Spaced s) h = refl
+plain_after c (marks.Closing s) h = refl
+plain_after c (marks.Opening s) h = refl
+plain_after c (marks.Joined s) h = refl
+plain_after c marks.Line h = refl
+plain_after c marks.Indented h = refl
 
 plain_ready : (c : Counts) (m : Mark) → is_plain m ≡ true → IsReady c m
 plain_ready c (marks.Word w) h = tt
@@ -274,9 +274,9 @@ pub record Gives {A : Type 0} (n : Tables) (v : Token → Verdict A) (a : A) (m 
 pub reprinted_token : {A : Type 0} (inside : Bool) (n : Tables) (v : Token → Verdict A) (s : Names) (a : A) (m : Mark) (t : Token) → Gives n v a m t → IsReprinted inside n (token v) s a s (m ∷ [])
 reprinted_token {A = A} inside n v s a m t h = record {
   ready = (plain_ready (counts s) m h.plain, tt);
-  counted = sym (plain_behind (counts s) m h.plain);
+  counted = sym (plain_after (counts s) m h.plain);
   spellable = (h.spellable, tt);
-  rereads = λ s2 us front ready are. (s2, read s2 us (subst (λ (ts : List Token). Are us ts) h.told are), front, sym (plain_behind (counts s2) m h.plain));
+  rereads = λ s2 us front ready are. (s2, read s2 us (subst (λ (ts : List Token). Are us ts) h.told are), front, sym (plain_after (counts s2) m h.plain));
 }
   where
     read : (s2 : Names) (us : List Piece) → Are us (t ∷ []) → (q : Spot) × (us ≡ Is q ∷ []) × (v q.token ≡ Takes a) × (s2 ≡ s2)

@@ -69,6 +69,6 @@ pub flat_more : {A : Type 0} (own : A → List Mark) (xs : List A) (x : A) → f
 flat_more own [] x = append-nil (own x)
 flat_more own (y ∷ ys) x = ap (λ (ms : List Mark). own y ++ ms) (flat_more own ys x) ∙ sym (append_assoc (own y) (flat_map own ys) (own x))
 
--- parts one behind the other
+-- parts one after the other
 pub prints_many : {A : Type 0} {inside : Bool} {n : Tables} {f f2 : Form A} (z : Set) (own : A → List Mark) → Prints inside n f f2 [] own → Prints inside n (many z f []) (many z f2 []) [] (flat_map own)
 prints_many {A = A} {f = f} z own h = prints_rounds (λ xs. z) (flat_map own) (λ xs. Unit {0}) (λ x s u x1 s1 ok r. tt) (λ xs ok. prints_then h (λ (x : A). prints_done (flat_more own xs x))) (λ xs ok. prints_done refl) [] tt

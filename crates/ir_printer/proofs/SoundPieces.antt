@@ -15,7 +15,7 @@ use Rattle.ir_lexer.specs.Alphabet.{is_run_byte, without_minus, is_int}
 use Rattle.ir_lexer.specs.Strings.{unescaped, is_name}
 use Rattle.ir_lexer.specs.Spellings.{IsRun, Quotes, Names as Named, Spells}
 use Rattle.ir_lexer.specs.Lexing.{Unread, whole, next_token, is_end}
-use Rattle.ir_lexer.proofs.Behind.{in_parts}
+use Rattle.ir_lexer.proofs.After.{in_parts}
 use Rattle.ir_grammar.specs.Pieces.{then_more, pieces_of, pieces}
 use Rattle.ir_printer.specs.Tokens.{is_byte, AreBytes, IsName}
 use Rattle.ir_printer.specs.Reprints.{IsSound, AreSound}
@@ -46,7 +46,7 @@ hex_small h e = grind (arith, nat_tests)
 escape_byte : (h l : ℕ) → is_ascii_hexdigit h ≡ true → is_ascii_hexdigit l ≡ true → is_byte (16 * digit_value h + digit_value l) ≡ true
 escape_byte h l e f = let a = hex_small h e in let b = hex_small l f in byte_true _ (omega arith)
 
--- what three bytes at the front say
+-- what the first three bytes say
 three : (a b c : ℕ) (bs : List ℕ) (s t : Bool) → ((a == 92) && (is_ascii_hexdigit b && is_ascii_hexdigit c)) ≡ t → AreBytes (a ∷ b ∷ c ∷ bs) →
     AreBytes (unescaped (c ∷ bs)) → AreBytes (unescaped bs) → AreBytes (unescaped (b ∷ c ∷ bs)) →
     AreBytes (if s then 92 ∷ unescaped (c ∷ bs) else (if t then (16 * digit_value b + digit_value c) ∷ unescaped bs else a ∷ unescaped (b ∷ c ∷ bs)))
@@ -146,17 +146,17 @@ sound_at (suc n) u lt h = subst AreSound (sym (pieces_step u)) (at (λ v l b. so
   where
     at : ((v : Unread) → length v.bytes < n → AreBytes v.bytes → AreSound (pieces_of v)) → (o : Result ((Token × Place) × Unread) LexFault) → next_token u ≡ o → AreSound (then_more o (λ v. pieces_of v))
     at more (Err f) e = tt
-    at more (Ok t) e = (token_sound t.0.0 parts.1 parts.3 (bytes_first parts.1 t.1.bytes behind), by_end (is_end t.0.0) refl)
+    at more (Ok t) e = (token_sound t.0.0 parts.1 parts.3 (bytes_first parts.1 t.1.bytes after), by_end (is_end t.0.0) refl)
       where
         parts : (gap form : List ℕ) × (u.bytes ≡ gap ++ (form ++ t.1.bytes)) × Spells t.0.0 form
         parts = let k = in_parts u t.1 t.0.0 t.0.1 e in (k.0, k.1, k.2, k.3)
 
-        behind : AreBytes (parts.1 ++ t.1.bytes)
-        behind = bytes_last parts.0 (parts.1 ++ t.1.bytes) (subst AreBytes parts.2 h)
+        after : AreBytes (parts.1 ++ t.1.bytes)
+        after = bytes_last parts.0 (parts.1 ++ t.1.bytes) (subst AreBytes parts.2 h)
 
         by_end : (b : Bool) → is_end t.0.0 ≡ b → AreSound (if b then [] else pieces_of t.1)
         by_end true g = tt
-        by_end false g = let less = fewer u t.1 t.0.0 t.0.1 e g in more t.1 (omega (arith, lt, less)) (bytes_last parts.1 t.1.bytes behind)
+        by_end false g = let less = fewer u t.1 t.0.0 t.0.1 e g in more t.1 (omega (arith, lt, less)) (bytes_last parts.1 t.1.bytes after)
 
 -- the pieces of a text of bytes
 pub pieces_sound : (bytes : List ℕ) → AreBytes bytes → AreSound (pieces bytes)

@@ -11,7 +11,7 @@ use Rattle.ir_lexer.specs.Places.{next_place, place_after}
 use Rattle.ir_lexer.specs.Lexing.{Unread, unread, next_token, gap_len, is_end}
 use Rattle.ir_lexer.specs.Table.{token_at}
 use Rattle.ir_lexer.specs.Spellings.{Spells, continues}
-use Rattle.ir_lexer.proofs.Behind.{past_separator, read_here}
+use Rattle.ir_lexer.proofs.After.{past_separator, read_here}
 use Rattle.ir_grammar.specs.Pieces.{Piece, Is, then_more, pieces_of}
 use Rattle.ir_printer.specs.declared.marks.Sign.{Sign}
 use Rattle.ir_printer.specs.declared.marks.Sign.TheVariants as signs
@@ -30,7 +30,7 @@ IsGap gap = list_all is_separator gap ≡ true
 
 -- ---- one token
 
--- what is left behind a gap
+-- what is left after a gap
 past_gap : (gap bs : List ℕ) (p : Place) → IsGap gap → (q : Place) × (pieces_of (unread (gap ++ bs) p) ≡ pieces_of (unread bs q))
 past_gap [] bs p h = (p, refl)
 past_gap (b ∷ gap) bs p h =
@@ -49,8 +49,8 @@ read_step : (t : Token) (p q : Place) (bs rest : List ℕ) → is_end t ≡ fals
 read_step t p q bs rest e h =
     (record { token = t; place = p }, q, refl, pieces_step (unread bs p) ∙ ap (λ r. then_more r (λ v. pieces_of v)) h ∙ one_more t p (unread rest q) (is_end t) refl e)
 
-behind_gap : (t : Token) (gap bs rest : List ℕ) (p : Place) → IsGap gap → ((q : Place) → Begins t bs q rest) → Begins t (gap ++ bs) p rest
-behind_gap t gap bs rest p h read =
+after_gap : (t : Token) (gap bs rest : List ℕ) (p : Place) → IsGap gap → ((q : Place) → Begins t bs q rest) → Begins t (gap ++ bs) p rest
+after_gap t gap bs rest p h read =
     let g = past_gap gap bs p h in
     let r = read g.0 in
     (r.0, r.1, r.2, g.1 ∙ r.3)
@@ -59,7 +59,7 @@ behind_gap t gap bs rest p h read =
 solid : (t : Token) (gap form rest : List ℕ) (p : Place) → IsGap gap → Spells t form → is_end t ≡ false → continues rest ≡ false → Begins t ((gap ++ form) ++ rest) p rest
 solid t gap form rest p g h e free =
     subst (λ (bs : List ℕ). Begins t bs p rest) (sym (append_assoc gap form rest))
-    (behind_gap t gap (form ++ rest) rest p g (λ q. read_step t q (place_after q form) (form ++ rest) rest e (read_here t form rest q h e free)))
+    (after_gap t gap (form ++ rest) rest p g (λ q. read_step t q (place_after q form) (form ++ rest) rest e (read_here t form rest q h e free)))
 
 sign_read : (s : Sign) (p : Place) (rest : List ℕ) → next_token (unread (sign_byte s ∷ rest) p) ≡ Ok ((tokens.Sign (sign_byte s), p), unread rest (place_after p (sign_byte s ∷ [])))
 unfolding next_token gap_len token_at
@@ -75,11 +75,11 @@ sign_read signs.CloseCurly p rest = refl
 sign_begins : (s : Sign) (rest : List ℕ) (p : Place) → Begins (tokens.Sign (sign_byte s)) (sign_byte s ∷ rest) p rest
 sign_begins s rest p = read_step (tokens.Sign (sign_byte s)) p _ (sign_byte s ∷ rest) rest refl (sign_read s p rest)
 
--- a sign behind a gap
+-- a sign after a gap
 spaced : (s : Sign) (gap rest : List ℕ) (p : Place) → IsGap gap → Begins (tokens.Sign (sign_byte s)) ((gap ++ sign_byte s ∷ []) ++ rest) p rest
 spaced s gap rest p g =
     subst (λ (bs : List ℕ). Begins (tokens.Sign (sign_byte s)) bs p rest) (sym (append_assoc gap (sign_byte s ∷ []) rest))
-    (behind_gap (tokens.Sign (sign_byte s)) gap (sign_byte s ∷ rest) rest p g (λ q. sign_begins s rest q))
+    (after_gap (tokens.Sign (sign_byte s)) gap (sign_byte s ∷ rest) rest p g (λ q. sign_begins s rest q))
 
 -- ---- what follows a token
 
@@ -93,7 +93,7 @@ sign_free signs.CloseSquare rest = refl
 sign_free signs.OpenCurly rest = refl
 sign_free signs.CloseCurly rest = refl
 
--- no token goes on with what stands behind a gap of at least one byte
+-- no token goes on with what stands after a gap of at least one byte
 free : (n : Tables) (b : ℕ) (gap : List ℕ) (ms : List Mark) (rest : List ℕ) → continues (b ∷ []) ≡ false → continues rest ≡ false → continues (marks_text n (b ∷ gap) ms ++ rest) ≡ false
 free n b gap [] rest h r = r
 free n b gap (marks.Word w ∷ ms) rest h r = h
@@ -113,7 +113,7 @@ free n b gap (marks.Indented ∷ ms) rest h r = free n 10 (32 ∷ 32 ∷ []) ms 
 
 -- ---- marks
 
--- the text of marks behind a gap begins with their tokens, and the rest is left
+-- the text of marks after a gap begins with their tokens, and the rest is left
 abbrev Read : Tables → List ℕ → List Mark → List ℕ → Place → Type 0
 Read n gap ms rest p = (us : List Piece) × (q : Place) × Are us (tokens_of n ms) × (pieces_of (unread (marks_text n gap ms ++ rest) p) ≡ us ++ pieces_of (unread rest q))
 

@@ -18,11 +18,11 @@ use Rattle.ir_grammar.specs.Pieces.{Piece}
 use Rattle.ir_grammar.specs.Names.{Names, no_names}
 use Rattle.ir_grammar.specs.Forms.{Rounds}
 use Rattle.ir_grammar.specs.Tokens.{Limits}
-use Rattle.ir_grammar.specs.Entities.{entity, no_entities, added, function_of, module_of, note_or_metadata, rest_of_note_or_metadata, behind_declaration, next_entity, text_end, text_form}
+use Rattle.ir_grammar.specs.Entities.{entity, no_entities, added, function_of, module_of, note_or_metadata, rest_of_note_or_metadata, after_declaration, next_entity, text_end, text_form}
 use Rattle.ir_printer.specs.declared.words.Word.TheVariants as words
 use Rattle.ir_printer.specs.declared.demands.Known.{Known}
 use Rattle.ir_printer.specs.Layout.{Tables, tables}
-use Rattle.ir_printer.specs.Order.{demand, known_behind, fits}
+use Rattle.ir_printer.specs.Order.{demand, known_beyond, fits}
 use Rattle.ir_printer.specs.Printed.{Entity, TargetLine, entity_marks, locals_of}
 use Rattle.ir_printer.specs.Tokens.{tokens_of, Are, AreSpellable}
 use Rattle.ir_printer.specs.Reprints.{Front, AreSound}
@@ -54,19 +54,19 @@ says_entity l d s u u1 u2 x s1 d1 t whole r none e =
     let same : u1 ≡ u = sym (append-nil u1) ∙ ap (λ (v : List Piece). u1 ++ v) (sym none) ∙ sym whole in
     inr (x, subst (λ (v : List Piece). (entity l (length d.definitions)).reads s v x t) same (subst (λ (z : Draft × Names). (entity l (length d.definitions)).reads s u1 x z.1) e r), ap (λ (z : Draft × Names). plain z.0) (sym e))
 
-behind_says : (l : Limits) (d : Draft) (s : Names) (u : List Piece) (d1 : Draft) (t : Names) → (behind_declaration l d).reads s u d1 t → Says l d s u d1 t
-unfolding behind_declaration entity
-behind_says l d s u d1 t (inl r) = inl (note_says l d s u d1 t r)
-behind_says l d s u d1 t (inr (inl r)) = inl (ap (λ (x : Draft × Names). plain x.0) (sym r.6.1), (quiet_attribute barred.Nothing).same s r.2 r.0 r.1 r.5 ∙ ap (λ (x : Draft × Names). x.1) r.6.1)
-behind_says l d s u d1 t (inr (inr r)) = says_entity l d s u r.2 r.3 r.0 r.1 d1 t r.4 (inr r.5) r.6.0 r.6.1
+after_says : (l : Limits) (d : Draft) (s : Names) (u : List Piece) (d1 : Draft) (t : Names) → (after_declaration l d).reads s u d1 t → Says l d s u d1 t
+unfolding after_declaration entity
+after_says l d s u d1 t (inl r) = inl (note_says l d s u d1 t r)
+after_says l d s u d1 t (inr (inl r)) = inl (ap (λ (x : Draft × Names). plain x.0) (sym r.6.1), (quiet_attribute barred.Nothing).same s r.2 r.0 r.1 r.5 ∙ ap (λ (x : Draft × Names). x.1) r.6.1)
+after_says l d s u d1 t (inr (inr r)) = says_entity l d s u r.2 r.3 r.0 r.1 d1 t r.4 (inr r.5) r.6.0 r.6.1
 
 round_says : (l : Limits) (d : Draft) (b : Bool) (s : Names) (u : List Piece) (d1 : Draft) (t : Names) → (next_entity l d b).reads s u d1 t → Says l d s u d1 t
-round_says l d true s u d1 t r = behind_says l d s u d1 t r
+round_says l d true s u d1 t r = after_says l d s u d1 t r
 round_says l d false s u d1 t r = says_entity l d s u r.2 r.3 r.0 r.1 d1 t r.4 r.5 r.6.0 r.6.1
 
 -- ---- the entities of a text
 
--- these entities were read one behind the other
+-- these entities were read one after the other
 abbrev pub HasRead : Limits → Names → List read_entities.Entity → Names → Type 0
 HasRead l s [] t = s ≡ t
 HasRead l s (x ∷ xs) t = (count : ℕ) × (u : List Piece) × (s1 : Names) × AreSound u × (entity l count).reads s u x s1 × HasRead l s1 xs t
@@ -120,7 +120,7 @@ parts_of noinline xs = flat_map (part_of noinline) xs
 abbrev pub IsPrintable : Tables → Limits → Entity → Type 0
 IsPrintable n l e = AreSpellable (tables n.symbols n.types (locals_of e)) (entity_marks n.symbols e) × (
     (s2 : Names) (us : List Piece) → Front false n s2 → fits (known s2) (demand (entity_marks n.symbols e)) ≡ true → Are us (tokens_of (tables n.symbols n.types (locals_of e)) (entity_marks n.symbols e)) →
-    (t2 : Names) × (printed_entity l).reads s2 us e t2 × Front false n t2 × (known t2 ≡ known_behind (known s2) (demand (entity_marks n.symbols e))))
+    (t2 : Names) × (printed_entity l).reads s2 us e t2 × Front false n t2 × (known t2 ≡ known_beyond (known s2) (demand (entity_marks n.symbols e))))
 
 -- what is said of entities that were read from these names to those
 pub record AreReprinted (n : Tables) (l : Limits) (s : Names) (es : List Entity) (t : Names) : Type 0 where
@@ -217,15 +217,15 @@ declared_parts noinline d (entities.Declare x) = map-append unplaced_declaration
 
 -- ---- the lines of the layout and of the triple
 
-abbrev pub layout_behind : Option (List ℕ) → Entity → Option (List ℕ)
-layout_behind o (TargetLine words.DataLayout said) = Some said
-layout_behind o e = o
+abbrev pub layout_after : Option (List ℕ) → Entity → Option (List ℕ)
+layout_after o (TargetLine words.DataLayout said) = Some said
+layout_after o e = o
 
-abbrev pub triple_behind : Option (List ℕ) → Entity → Option (List ℕ)
-triple_behind o (TargetLine words.Triple said) = Some said
-triple_behind o e = o
+abbrev pub triple_after : Option (List ℕ) → Entity → Option (List ℕ)
+triple_after o (TargetLine words.Triple said) = Some said
+triple_after o e = o
 
-layout_parts : (noinline : List (List ℕ)) (d : Draft) (x : read_entities.Entity) → (added d x).layout ≡ fold layout_behind d.layout (part_of noinline x)
+layout_parts : (noinline : List (List ℕ)) (d : Draft) (x : read_entities.Entity) → (added d x).layout ≡ fold layout_after d.layout (part_of noinline x)
 layout_parts noinline d entities.Nothing = refl
 layout_parts noinline d (entities.Layout said) = refl
 layout_parts noinline d (entities.Triple said) = refl
@@ -235,7 +235,7 @@ layout_parts noinline d (entities.Global x) = refl
 layout_parts noinline d (entities.Define x) = refl
 layout_parts noinline d (entities.Declare x) = refl
 
-triple_parts : (noinline : List (List ℕ)) (d : Draft) (x : read_entities.Entity) → (added d x).triple ≡ fold triple_behind d.triple (part_of noinline x)
+triple_parts : (noinline : List (List ℕ)) (d : Draft) (x : read_entities.Entity) → (added d x).triple ≡ fold triple_after d.triple (part_of noinline x)
 triple_parts noinline d entities.Nothing = refl
 triple_parts noinline d (entities.Layout said) = refl
 triple_parts noinline d (entities.Triple said) = refl
@@ -267,8 +267,8 @@ assembled es t = record {
   globals = flat_map global_in es;
   funcs = flat_map func_in es;
   declared = flat_map declared_in es;
-  layout = fold layout_behind None es;
-  triple = fold triple_behind None es;
+  layout = fold layout_after None es;
+  triple = fold triple_after None es;
 }
 
 mapped_twice : {A B C : Type 0} (f : B → C) (g : A → B) (xs : List A) → map f (map g xs) ≡ map (λ x. f (g x)) xs
@@ -295,5 +295,5 @@ module_read xs t =
     (fold_lists (λ (y : Draft). y.globals) unplaced_global global_in noinline (global_parts noinline) xs no_entities)
     (mapped_twice unplaced_func (function_of noinline) d.definitions ∙ fold_lists (λ (y : Draft). y.definitions) (settled_func noinline) func_in noinline (func_parts noinline) xs no_entities)
     (fold_lists (λ (y : Draft). y.declared) unplaced_declaration declared_in noinline (declared_parts noinline) xs no_entities)
-    (fold_lines (λ (y : Draft). y.layout) layout_behind noinline (layout_parts noinline) xs no_entities)
-    (fold_lines (λ (y : Draft). y.triple) triple_behind noinline (triple_parts noinline) xs no_entities)
+    (fold_lines (λ (y : Draft). y.layout) layout_after noinline (layout_parts noinline) xs no_entities)
+    (fold_lines (λ (y : Draft). y.triple) triple_after noinline (triple_parts noinline) xs no_entities)

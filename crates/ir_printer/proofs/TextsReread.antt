@@ -11,7 +11,7 @@ use Rattle.ir_lexer.specs.declared.table.Spot.{Spot}
 use Rattle.ir_lexer.specs.Lexing.{unread, next_token, gap_len}
 use Rattle.ir_lexer.specs.Places.{next_place}
 use Rattle.ir_lexer.specs.Table.{token_at}
-use Rattle.ir_lexer.proofs.Behind.{past_separator}
+use Rattle.ir_lexer.proofs.After.{past_separator}
 use Rattle.ir_grammar.specs.declared.kinds.Kind.TheVariants as kinds
 use Rattle.ir_grammar.specs.declared.parts.Draft.{Draft}
 use Rattle.ir_grammar.specs.declared.parts.Entity as read_entities
@@ -21,7 +21,7 @@ use Rattle.ir_grammar.specs.Names.{Names}
 use Rattle.ir_grammar.specs.Sets.{has}
 use Rattle.ir_grammar.specs.Forms.{Rounds}
 use Rattle.ir_grammar.specs.Tokens.{Limits, is_past, kind, allows}
-use Rattle.ir_grammar.specs.Entities.{entity, other_entity, added, module_of, behind_declaration, next_entity, text_end}
+use Rattle.ir_grammar.specs.Entities.{entity, other_entity, added, module_of, after_declaration, next_entity, text_end}
 use Rattle.ir_printer.specs.declared.order.Kind.{Kind}
 use Rattle.ir_printer.specs.Layout.{Tables, tables, marks_text}
 use Rattle.ir_printer.specs.Printed.{Entity, TargetLine, DefinedType, Variable, Definition, Declared, entity_marks, locals_of, kind_of, is_apart, page}
@@ -40,7 +40,7 @@ abbrev pub PiecesAre : Tables → List Piece → List Entity → Type 0
 PiecesAre n us [] = (end : Spot) × (us ≡ Is end ∷ []) × (end.token ≡ tokens.End)
 PiecesAre n us (e ∷ es) = (u v : List Piece) × (us ≡ u ++ v) × Are u (tokens_of (tables n.symbols n.types (locals_of e)) (entity_marks n.symbols e)) × PiecesAre n v es
 
--- what stands behind a line's end
+-- what stands after a line's end
 line_end : (rest : List ℕ) (p : Place) → pieces_of (unread (10 ∷ rest) p) ≡ pieces_of (unread rest (next_place p 10))
 line_end rest p =
     pieces_step (unread (10 ∷ rest) p) ∙ ap (λ o. then_more o (λ v. pieces_of v)) (past_separator 10 rest p refl) ∙ sym (pieces_step (unread rest (next_place p 10)))
@@ -72,16 +72,16 @@ page_pieces n l (e ∷ es) before p h =
 
 -- ---- they are read
 
--- entities are read again behind others
+-- entities are read again after others
 pub record Reread (n : Tables) (l : Limits) (d : Draft) (s : Names) (us : List Piece) (es : List Entity) : Type 0 where
   pub entities : List read_entities.Entity
-  pub behind : Names
+  pub after : Names
   pub count : ℕ
-  pub rounds : Rounds (λ (e : Draft). next_entity l e e.declares) text_end count d s us (module_of (fold added d entities) behind) behind
+  pub rounds : Rounds (λ (e : Draft). next_entity l e e.declares) text_end count d s us (module_of (fold added d entities) after) after
   pub same : parts_of [] entities ≡ es
   pub groups : (fold added d entities).noinline ≡ d.noinline
-  pub front : Front false n behind
-  pub counted : known behind ≡ known_after n.symbols (known s) es
+  pub front : Front false n after
+  pub counted : known after ≡ known_after n.symbols (known s) es
 
 no_group : (d : Draft) (x : read_entities.Entity) (e : Entity) → printed_of [] x ≡ Some e → (added d x).noinline ≡ d.noinline
 no_group d entities.Nothing e h = refl
@@ -94,7 +94,7 @@ no_group d (entities.Define x) e h = refl
 no_group d (entities.Declare x) e h = refl
 
 next_reads : (l : Limits) (d : Draft) (b : Bool) (s : Names) (u : List Piece) (x : read_entities.Entity) (t : Names) → (other_entity l (length d.definitions)).reads s u x t → (next_entity l d b).reads s u (added d x) t
-unfolding behind_declaration entity
+unfolding after_declaration entity
 next_reads l d true s u x t r = inr (inr (x, t, u, [], sym (append-nil u), r, (refl, refl)))
 next_reads l d false s u x t r = (x, t, u, [], sym (append-nil u), inr r, (refl, refl))
 
@@ -135,9 +135,9 @@ has_room l count (Variable g) es h = tt
 has_room l count (Definition f) es h = past_less l.functions (count + 1) (count + defined (Definition f ∷ es)) (omega arith) h
 has_room l count (Declared d) es h = tt
 
--- and for those behind it
-room_behind : (l : Limits) (d : Draft) (x : read_entities.Entity) (e : Entity) (es : List Entity) → printed_of [] x ≡ Some e → is_past l.functions (length d.definitions + defined (e ∷ es)) ≡ false → is_past l.functions (length (added d x).definitions + defined es) ≡ false
-room_behind l d x e es h room =
+-- and for those after it
+room_after : (l : Limits) (d : Draft) (x : read_entities.Entity) (e : Entity) (es : List Entity) → printed_of [] x ≡ Some e → is_past l.functions (length d.definitions + defined (e ∷ es)) ≡ false → is_past l.functions (length (added d x).definitions + defined es) ≡ false
+room_after l d x e es h room =
     let one = one_more d x e h in
     let both = length-append (func_in e) (flat_map func_in es) in
     let same : length (added d x).definitions + defined es ≡ length d.definitions + defined (e ∷ es) = omega (arith, one, both) in
@@ -146,7 +146,7 @@ room_behind l d x e es h room =
 pub reread : (n : Tables) (l : Limits) → RereadsEntities l → (es : List Entity) (d : Draft) (s : Names) (us : List Piece) → is_past l.functions (length d.definitions + length (flat_map func_in es)) ≡ false → Every (IsPrintable n l) es → Fitted n.symbols (known s) es → Front false n s → PiecesAre n us es → Reread n l d s us es
 reread n l again [] d s us room every fitted front p = record {
   entities = [];
-  behind = s;
+  after = s;
   count = zero;
   rounds = (tt, s, us, [], sym (append-nil us), (p.0, p.1, ap (λ (t : Token). allows (has (kind kinds.End) t)) p.2, refl), (refl, refl));
   same = refl;
@@ -157,10 +157,10 @@ reread n l again [] d s us room every fitted front p = record {
 reread n l again (e ∷ es) d s us room every fitted front p =
     let h = every.0.1 s p.0 front fitted.0 p.3 in
     let x = again (length d.definitions) s p.0 e h.0 (has_room l (length d.definitions) e es room) h.1 in
-    let more = reread n l again es (added d x.0) h.0 p.1 (room_behind l d x.0 e es x.2 room) every.1 (subst (λ l. Fitted n.symbols l es) (sym h.3) fitted.1) h.2 p.4 in
+    let more = reread n l again es (added d x.0) h.0 p.1 (room_after l d x.0 e es x.2 room) every.1 (subst (λ l. Fitted n.symbols l es) (sym h.3) fitted.1) h.2 p.4 in
     record {
       entities = x.0 ∷ more.entities;
-      behind = more.behind;
+      after = more.after;
       count = suc more.count;
       rounds = (added d x.0, h.0, p.0, p.1, p.2, next_reads l d d.declares s p.0 x.0 h.0 x.1, more.rounds);
       same = ap (λ (o : Option Entity). one_or_none o ++ parts_of [] more.entities) x.2 ∙ ap (λ (ys : List Entity). e ∷ ys) more.same;

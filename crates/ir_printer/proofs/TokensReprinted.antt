@@ -142,7 +142,7 @@ prints_unless_past false w h = h
 pub prints_mapped : {A B : Type 0} {inside : Bool} {n : Tables} (f : Form A) (g : A → B) (own : A → List Mark) (all : B → List Mark) → Prints inside n f f [] own → ((a : A) → all (g a) ≡ own a) → Prints inside n (f >>= λ a. ret (g a)) (f >>= λ a. ret (g a)) [] all
 prints_mapped f g own all h e = prints_then h (λ a. prints_done (e a))
 
--- an act behind a token, and the same with another value
+-- an act after a token, and the same with another value
 abbrev pub AsActs : {A B : Type 0} → (List ℕ → Names → A × Names) → (A → B) → List ℕ → Names → B × Names
 AsActs h g name s = (g (h name s).0, (h name s).1)
 

@@ -23,7 +23,7 @@ use Rattle.ir_printer.specs.declared.marks.Sign.TheVariants as signs
 use Rattle.ir_printer.specs.declared.marks.Mark.{Mark}
 use Rattle.ir_printer.specs.declared.marks.Mark.TheVariants as marks
 use Rattle.ir_printer.specs.Layout.{Tables}
-use Rattle.ir_printer.specs.Marks.{comma, behind_commas, last_sign, type_marks, count_marks, const_marks, typed_const_marks, value_marks, typed_marks}
+use Rattle.ir_printer.specs.Marks.{comma, after_commas, last_sign, type_marks, count_marks, const_marks, typed_const_marks, value_marks, typed_marks}
 use Rattle.ir_printer.specs.Reprints.{IsSound}
 use Rattle.ir_printer.proofs.Levels.{array_const, struct_const}
 use Rattle.ir_printer.proofs.Reprinting.{IndexedTables, Prints, prints_token, prints_then, prints_done, prints_either}
@@ -55,7 +55,7 @@ prints_count i most k = prints_then (prints_type i true most k) (λ (t : IrType)
 gep_marks_are : (a b c d e f : Mark) (ts cs : List Mark) → a ∷ b ∷ (ts ++ (c ∷ d ∷ e ∷ (cs ++ f ∷ []))) ≡ (((((((a ∷ []) ++ b ∷ []) ++ ts) ++ c ∷ []) ++ d ∷ []) ++ e ∷ []) ++ cs) ++ f ∷ []
 gep_marks_are a b c d e f ts cs = simp append_assoc
 
--- what stands behind the word
+-- what stands after the word
 pub prints_gep_rest : {inside : Bool} {n : Tables} → IndexedTables n → (most : Option ℕ) (k : ℕ) → Prints inside n (gep_rest most k) (gep_rest most k) (marks.Word words.GetElementPtr ∷ []) const_marks
 unfolding gep_rest
 prints_gep_rest i most k =
@@ -66,7 +66,7 @@ prints_gep_rest i most k =
     prints_then (prints_global i) (λ (g : SymId).
     prints_then (prints_commas count_marks (prints_count i most k)) (λ (is : List TypedCount).
     prints_then (prints_expect (sign 41) (marks.Closing signs.CloseRound) (tokens.Sign 41) refl tt refl refl) (λ (d : Unit {0}).
-    prints_done (gep_marks_are (marks.Word words.GetElementPtr) (marks.Opening signs.OpenRound) comma (marks.Word words.Ptr) (marks.Symbol g) (marks.Closing signs.CloseRound) (type_marks t) (behind_commas (map count_marks is))))))))))
+    prints_done (gep_marks_are (marks.Word words.GetElementPtr) (marks.Opening signs.OpenRound) comma (marks.Word words.Ptr) (marks.Symbol g) (marks.Closing signs.CloseRound) (type_marks t) (after_commas (map count_marks is))))))))))
 
 pub prints_gep_word : {inside : Bool} {n : Tables} → Prints inside n (expect gep_word) (expect gep_word) [] (λ u. marks.Word words.GetElementPtr ∷ [])
 prints_gep_word = prints_expect gep_word (marks.Word words.GetElementPtr) (tokens.Word (codes "getelementptr")) refl tt refl refl

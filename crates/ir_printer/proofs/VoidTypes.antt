@@ -1,6 +1,6 @@
 -- The type `void` is the word, and every other type is one of a value.
 use Rattle.std.proofs.Common.{◌≡◌, ◌⊎◌, inl, inr, refl, ap, ℕ, zero, suc, Bool, true, false, ◌||◌, List}
-use Rattle.std.specs.Prelude.{if◌then◌else◌, Option, Some, None, codes}
+use Rattle.std.specs.Prelude.{if◌then◌else◌, Option, Some, codes}
 use Rattle.std.specs.Str.{bytes_eq}
 use Rattle.oi_base.specs.declared.words.Width.{Width}
 use Rattle.oi_base.specs.declared.words.Width.TheVariants.{W1, W8, W16, W32}

@@ -14,7 +14,8 @@ use Rattle.ir_lexer.specs.Alphabet.{is_run_byte, is_int}
 use Rattle.ir_lexer.specs.Spellings.{Spells}
 use Rattle.ir_printer.specs.declared.words.Word.{Word}
 use Rattle.ir_printer.specs.declared.words.Word.TheVariants as words
-use Rattle.ir_printer.specs.Words.{width_text, bin_text, order_text, cast_text, word_text}
+use Rattle.ir_core.specs.Opcodes.{width_text, bin_text, order_text, cast_text}
+use Rattle.ir_printer.specs.Words.{word_text}
 use Rattle.ir_printer.proofs.Strings.{both, less}
 
 is_word : List ℕ → Bool

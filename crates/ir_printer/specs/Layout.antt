@@ -73,7 +73,7 @@ spelled n (marks.Joined s) = sign_byte s ∷ []
 spelled n marks.Line = []
 spelled n marks.Indented = []
 
--- the mark takes no gap before it: the sign stands directly behind the token before it, or the mark is a gap itself
+-- the mark takes no gap before it: the sign stands directly after the token before it, or the mark is a gap itself
 abbrev pub is_tight : Mark → Bool
 is_tight (marks.Closing s) = true
 is_tight (marks.Joined s) = true
@@ -82,18 +82,18 @@ is_tight marks.Indented = true
 is_tight m = false
 
 -- what stands between the mark and the next token
-abbrev pub gap_behind : Mark → List ℕ
-gap_behind (marks.Opening s) = []
-gap_behind (marks.Joined s) = []
-gap_behind marks.Line = 10 ∷ []
-gap_behind marks.Indented = 10 ∷ 32 ∷ 32 ∷ []
-gap_behind m = 32 ∷ []
+abbrev pub gap_after : Mark → List ℕ
+gap_after (marks.Opening s) = []
+gap_after (marks.Joined s) = []
+gap_after marks.Line = 10 ∷ []
+gap_after marks.Indented = 10 ∷ 32 ∷ 32 ∷ []
+gap_after m = 32 ∷ []
 
--- the mark's text behind a gap
+-- the mark's text after a gap
 abbrev pub mark_text : Tables → List ℕ → Mark → List ℕ
 mark_text n gap m = if is_tight m then spelled n m else gap ++ spelled n m
 
--- the text of marks, the first of which stands behind this gap
+-- the text of marks, the first of which stands after this gap
 abbrev pub marks_text : Tables → List ℕ → List Mark → List ℕ
 marks_text n gap [] = []
-marks_text n gap (m ∷ ms) = mark_text n gap m ++ marks_text n (gap_behind m) ms
+marks_text n gap (m ∷ ms) = mark_text n gap m ++ marks_text n (gap_after m) ms

@@ -42,17 +42,17 @@ equals = marks.Spaced signs.Equals
 
 -- ---- lists
 
-abbrev pub behind_comma : List Mark → List Mark
-behind_comma part = comma ∷ part
+abbrev pub after_comma : List Mark → List Mark
+after_comma part = comma ∷ part
 
--- each part behind a comma
-abbrev pub behind_commas : List (List Mark) → List Mark
-behind_commas parts = flat_map behind_comma parts
+-- each part after a comma
+abbrev pub after_commas : List (List Mark) → List Mark
+after_commas parts = flat_map after_comma parts
 
 -- parts with commas between them
 abbrev pub separated : List (List Mark) → List Mark
 separated [] = []
-separated (part ∷ parts) = part ++ behind_commas parts
+separated (part ∷ parts) = part ++ after_commas parts
 
 -- what stands between a part and the one before it, if it is not the first
 abbrev pub comma_unless : Bool → List Mark
@@ -74,7 +74,7 @@ in_square parts = bracketed signs.OpenSquare signs.CloseSquare parts
 abbrev pub in_curly : List (List Mark) → List Mark
 in_curly parts = bracketed signs.OpenCurly signs.CloseCurly parts
 
--- `(a, b)`, directly behind what stands before
+-- `(a, b)`, directly after what stands before
 abbrev pub in_round : List (List Mark) → List Mark
 in_round parts = marks.Joined signs.OpenRound ∷ (separated parts ++ marks.Closing signs.CloseRound ∷ [])
 
@@ -106,7 +106,7 @@ count_marks c = type_marks c.ty ++ marks.Int c.count ∷ []
 abbrev pub gep_marks : IrType → Mark → List TypedCount → List Mark
 gep_marks t address is =
     word words.GetElementPtr ∷ marks.Opening signs.OpenRound ∷ (type_marks t ++ (comma ∷ word words.Ptr ∷ address ∷
-    (behind_commas (map count_marks is) ++ marks.Closing signs.CloseRound ∷ [])))
+    (after_commas (map count_marks is) ++ marks.Closing signs.CloseRound ∷ [])))
 
 abbrev pub bool_word : Bool → Word
 bool_word true = words.True
@@ -170,7 +170,7 @@ op_marks (ops.Cast o a t) = word (words.Cast o) ∷ (typed_marks a ++ (word word
 op_marks (ops.Alloca t count align) = word words.Alloca ∷ (type_marks t ++ (alloca_count_marks count ++ align_marks align))
 op_marks (ops.Load t a align) = word words.Load ∷ (type_marks t ++ (comma ∷ (typed_marks a ++ align_marks align)))
 op_marks (ops.Store a p align) = word words.Store ∷ (typed_marks a ++ (comma ∷ (typed_marks p ++ align_marks align)))
-op_marks (ops.Gep t a is) = word words.GetElementPtr ∷ (type_marks t ++ (comma ∷ (typed_marks a ++ behind_commas (map typed_marks is))))
+op_marks (ops.Gep t a is) = word words.GetElementPtr ∷ (type_marks t ++ (comma ∷ (typed_marks a ++ after_commas (map typed_marks is))))
 op_marks (ops.Phi t ps) = word words.Phi ∷ (type_marks t ++ separated (map pair_marks ps))
 op_marks (ops.Call t f as') = word words.Call ∷ (type_marks t ++ (marks.Symbol f ∷ in_round (map typed_marks as')))
 

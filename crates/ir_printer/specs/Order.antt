@@ -1,5 +1,5 @@
 -- The order of the entities of a module. A text numbers symbols and type names in order of first appearance, so an
--- entity stands behind those that bring the names which come before its own.
+-- entity stands after those that bring the names which come before its own.
 use Rattle.std.specs.Prelude.{ℕ, zero, suc, ◌+◌, nat_le, max, Bool, true, false, ◌&&◌, List, [], ◌∷◌, length, fold, Option, Some, None, if◌then◌else◌}
 use Rattle.std.specs.Option.{option_map_or}
 use Rattle.ir_printer.specs.declared.marks.Mark.{Mark}
@@ -17,33 +17,33 @@ abbrev pub no_span : Span
 no_span = record { need = 0; reach = 0 }
 
 -- one more name appears: it is one of those here, or so many must have come before
-abbrev pub span_behind : Span → ℕ → Span
-span_behind s x = record { need = if nat_le x s.reach then s.need else max s.need x; reach = max s.reach (x + 1) }
+abbrev pub span_after : Span → ℕ → Span
+span_after s x = record { need = if nat_le x s.reach then s.need else max s.need x; reach = max s.reach (x + 1) }
 
 -- of names in order of appearance: how many must have come before, so that each is one of those or the next one; and
--- how many have come behind them
+-- how many have come after them
 abbrev pub span : List ℕ → Span
-span names = fold span_behind no_span names
+span names = fold span_after no_span names
 
 abbrev pub no_demand : Demand
 no_demand = record { symbols = no_span; types = no_span }
 
-abbrev pub demand_behind : Demand → Mark → Demand
-demand_behind d (marks.Symbol x) = record d { symbols = span_behind d.symbols x.0 }
-demand_behind d (marks.TypeName x) = record d { types = span_behind d.types x.0 }
-demand_behind d m = d
+abbrev pub demand_after : Demand → Mark → Demand
+demand_after d (marks.Symbol x) = record d { symbols = span_after d.symbols x.0 }
+demand_after d (marks.TypeName x) = record d { types = span_after d.types x.0 }
+demand_after d m = d
 
 -- the symbols and type names of marks
 abbrev pub demand : List Mark → Demand
-demand ms = fold demand_behind no_demand ms
+demand ms = fold demand_after no_demand ms
 
 -- ---- the order
 
 abbrev pub nothing_known : Known
 nothing_known = record { symbols = 0; types = 0 }
 
-abbrev pub known_behind : Known → Demand → Known
-known_behind k d = record { symbols = max k.symbols d.symbols.reach; types = max k.types d.types.reach }
+abbrev pub known_beyond : Known → Demand → Known
+known_beyond k d = record { symbols = max k.symbols d.symbols.reach; types = max k.types d.types.reach }
 
 abbrev pub fits : Known → Demand → Bool
 fits k d = nat_le d.symbols.need k.symbols && nat_le d.types.need k.types
@@ -75,7 +75,7 @@ turn k q =
 
 abbrev pub first_known : Known → List Demand → Known
 first_known k [] = k
-first_known k (d ∷ ds) = known_behind k d
+first_known k (d ∷ ds) = known_beyond k d
 
 abbrev pub queue_of : Kind → Demands → List Demand
 queue_of kinds.Target q = []

@@ -119,7 +119,7 @@ is_apart (Some before) k = true
 abbrev pub blank_line : Option Kind → Kind → List ℕ
 blank_line before k = if is_apart before k then 10 ∷ [] else []
 
--- the text of entities behind one of this kind
+-- the text of entities after one of this kind
 abbrev pub page : List (List ℕ) → List (List ℕ) → Option Kind → List Entity → List ℕ
 page symbols types before [] = []
 page symbols types before (e ∷ es) = blank_line before (kind_of e) ++ (entity_text symbols types e ++ page symbols types (Some (kind_of e)) es)

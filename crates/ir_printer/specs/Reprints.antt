@@ -19,20 +19,20 @@ pub record Counts : Type 0 where
 abbrev pub counts : Names → Counts
 counts s = record { symbols = length s.symbols; types = length s.types; locals = length s.locals }
 
--- behind the name at a position
+-- after the name at a position
 abbrev pub past : ℕ → ℕ → ℕ
 past n k = max n (k + 1)
 
--- behind a mark
-abbrev pub behind_mark : Counts → Mark → Counts
-behind_mark c (marks.Symbol x) = record c { symbols = past c.symbols x.0 }
-behind_mark c (marks.TypeName x) = record c { types = past c.types x.0 }
-behind_mark c (marks.Local x) = record c { locals = past c.locals x.0 }
-behind_mark c (marks.Label x) = record c { locals = past c.locals x.0 }
-behind_mark c m = c
+-- after a mark
+abbrev pub after_mark : Counts → Mark → Counts
+after_mark c (marks.Symbol x) = record c { symbols = past c.symbols x.0 }
+after_mark c (marks.TypeName x) = record c { types = past c.types x.0 }
+after_mark c (marks.Local x) = record c { locals = past c.locals x.0 }
+after_mark c (marks.Label x) = record c { locals = past c.locals x.0 }
+after_mark c m = c
 
-abbrev pub behind : Counts → List Mark → Counts
-behind c ms = fold behind_mark c ms
+abbrev pub after : Counts → List Mark → Counts
+after c ms = fold after_mark c ms
 
 -- a mark's name has come, or is the next one
 abbrev pub IsReady : Counts → Mark → Type 0
@@ -45,7 +45,7 @@ IsReady c m = Unit {0}
 -- each name has come, or is the next one where it stands
 abbrev pub AreReady : Counts → List Mark → Type 0
 AreReady c [] = Unit {0}
-AreReady c (m ∷ ms) = IsReady c m × AreReady (behind_mark c m) ms
+AreReady c (m ∷ ms) = IsReady c m × AreReady (after_mark c m) ms
 
 -- the names so far begin the tables; local names count inside a function alone
 abbrev pub Front : Bool → Tables → Names → Type 0
@@ -68,11 +68,11 @@ AreSound (Bad e ∷ us) = AreSound us
 
 -- pieces of these tokens are read as this value, wherever its names are ready
 abbrev pub Rereads : {A : Type 0} → Bool → Tables → Form A → A → List Mark → Type 0
-Rereads inside n f a ms = (s : Names) (us : List Piece) → Front inside n s → AreReady (counts s) ms → Are us (tokens_of n ms) → (t : Names) × f.reads s us a t × Front inside n t × (counts t ≡ behind (counts s) ms)
+Rereads inside n f a ms = (s : Names) (us : List Piece) → Front inside n s → AreReady (counts s) ms → Are us (tokens_of n ms) → (t : Names) × f.reads s us a t × Front inside n t × (counts t ≡ after (counts s) ms)
 
 -- what is said of a value that was read from these names to those, and of its marks
 pub record IsReprinted {A : Type 0} (inside : Bool) (n : Tables) (f : Form A) (s : Names) (a : A) (t : Names) (ms : List Mark) : Type 0 where
   pub ready : AreReady (counts s) ms
-  pub counted : counts t ≡ behind (counts s) ms
+  pub counted : counts t ≡ after (counts s) ms
   pub spellable : AreSpellable n ms
   pub rereads : Rereads inside n f a ms

@@ -1,5 +1,5 @@
 ghost use Rattle.std.specs.Prelude.{◌≡◌, ◌∷◌, ◌++◌, [], map, OnOk};
-ghost use Rattle.ir_printer.specs.Marks.{behind_commas, separated, last_sign, bracketed, count_marks, gep_marks, bool_word, const_marks, typed_const_marks, value_marks, typed_marks, align_marks};
+ghost use Rattle.ir_printer.specs.Marks.{after_commas, separated, last_sign, bracketed, count_marks, gep_marks, bool_word, const_marks, typed_const_marks, value_marks, typed_marks, align_marks};
 ghost use Rattle.ir_printer.specs.declared.marks.Mark.TheVariants as marks;
 
 use crate::marks::{Mark, Sheet, Sign};
@@ -78,12 +78,12 @@ impl Sheet {
         self.comma()?;
         self.word(Word::Ptr)?;
         self.push(Mark::Symbol(symbol))?;
-        self.counts_behind_commas(indices)?;
+        self.counts_after_commas(indices)?;
         self.push(Mark::Closing(Sign::CloseRound))
     }
 
-    fn counts_behind_commas(&mut self, counts: &[TypedCount]) -> Result<(), NoMemory>
-        ensures { OnOk result (self.new ≡ self.old ++ behind_commas (map count_marks counts.now)) }
+    fn counts_after_commas(&mut self, counts: &[TypedCount]) -> Result<(), NoMemory>
+        ensures { OnOk result (self.new ≡ self.old ++ after_commas (map count_marks counts.now)) }
     {
         for count in counts {
             self.comma()?;

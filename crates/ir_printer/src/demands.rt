@@ -1,11 +1,11 @@
 ghost use Rattle.std.specs.Prelude.{◌≡◌, max};
-ghost use Rattle.ir_printer.specs.Order.{span_behind, demand_behind, demand, no_demand, known_behind, fits};
+ghost use Rattle.ir_printer.specs.Order.{span_after, demand_after, demand, no_demand, known_beyond, fits};
 
 use crate::marks::Mark;
 use oi_base::Items;
 
 /// Of names in order of appearance: how many must have come before, so that each of them is one of those or the next
-/// one, and how many have come behind them.
+/// one, and how many have come after them.
 #[derive(Clone, Copy, Debug, PartialEq, Eq)]
 pub struct Span {
     pub need: usize,
@@ -17,7 +17,7 @@ impl Span {
 
     /// One more name appears.
     fn then(self, name: u32) -> Span
-        ensures { result ≡ span_behind self name }
+        ensures { result ≡ span_after self name }
     {
         let at = name as usize;
         Span {
@@ -54,7 +54,7 @@ impl Demand {
     }
 
     fn then(self, mark: &Mark) -> Demand
-        ensures { result ≡ demand_behind self mark.now }
+        ensures { result ≡ demand_after self mark.now }
     {
         match mark {
             Mark::Symbol(name) => Demand {
@@ -83,9 +83,9 @@ impl Known {
         types: 0,
     };
 
-    /// What is known behind an entity.
+    /// What is known after an entity.
     pub fn then(self, demand: Demand) -> Known
-        ensures { result ≡ known_behind self demand }
+        ensures { result ≡ known_beyond self demand }
     {
         Known {
             symbols: self.symbols.max(demand.symbols.reach),

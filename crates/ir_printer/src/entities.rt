@@ -1,5 +1,5 @@
 ghost use Rattle.std.specs.Prelude.{◌≡◌, ◌++◌, map, OnOk};
-ghost use Rattle.ir_printer.specs.Marks.{behind_commas, separated, in_round, param_marks, word_if, head_marks, body_marks, func_marks, storage_word, global_marks, type_def_marks, signature, one_or_none, declared_marks, target_line_marks};
+ghost use Rattle.ir_printer.specs.Marks.{after_commas, separated, in_round, param_marks, word_if, head_marks, body_marks, func_marks, storage_word, global_marks, type_def_marks, signature, one_or_none, declared_marks, target_line_marks};
 
 use crate::marks::{Mark, Sheet, Sign};
 use crate::words::Word;
@@ -59,13 +59,13 @@ impl Sheet {
             [] => Ok(()),
             [first, more @ ..] => {
                 self.param(first)?;
-                self.params_behind_commas(more)
+                self.params_after_commas(more)
             }
         }
     }
 
-    fn params_behind_commas(&mut self, params: &[Param]) -> Result<(), NoMemory>
-        ensures { OnOk result (self.new ≡ self.old ++ behind_commas (map param_marks params.now)) }
+    fn params_after_commas(&mut self, params: &[Param]) -> Result<(), NoMemory>
+        ensures { OnOk result (self.new ≡ self.old ++ after_commas (map param_marks params.now)) }
     {
         for param in params {
             self.comma()?;

@@ -40,8 +40,8 @@ impl Sign {
 }
 
 /// A part of a printed text: a token, in which a name is its position in the list of its kind, or the end of a line.
-/// A blank stands between two tokens of a line, but for a sign that stands directly behind the token before it, or has
-/// the next one directly behind it.
+/// A blank stands between two tokens of a line, but for a sign that stands directly after the token before it, or has
+/// the next one directly after it.
 #[derive(Drop)]
 pub enum Mark {
     Word(Word),
@@ -59,9 +59,9 @@ pub enum Mark {
     /// A name of the function, and `:`.
     Label(LocalId),
     Spaced(Sign),
-    /// Directly behind the token before it.
+    /// Directly after the token before it.
     Closing(Sign),
-    /// The next token stands directly behind it.
+    /// The next token stands directly after it.
     Opening(Sign),
     /// Both.
     Joined(Sign),
@@ -71,7 +71,7 @@ pub enum Mark {
     Indented,
 }
 
-/// Marks that are put one behind the other. Contracts see their list.
+/// Marks that are put one after the other. Contracts see their list.
 #[derive(Drop)]
 pub struct Sheet {
     alloc: Global,

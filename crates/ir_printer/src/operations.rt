@@ -1,5 +1,5 @@
 ghost use Rattle.std.specs.Prelude.{◌≡◌, ◌++◌, map, OnOk};
-ghost use Rattle.ir_printer.specs.Marks.{behind_commas, separated, in_round, typed_marks, two_marks, alloca_count_marks, pair_marks, op_marks, result_marks, instr_marks};
+ghost use Rattle.ir_printer.specs.Marks.{after_commas, separated, in_round, typed_marks, two_marks, alloca_count_marks, pair_marks, op_marks, result_marks, instr_marks};
 ghost use Rattle.ir_core.specs.declared.op.Op.TheVariants as ops;
 
 use crate::marks::{Mark, Sheet, Sign};
@@ -160,11 +160,11 @@ impl Sheet {
         self.ty(ty)?;
         self.comma()?;
         self.typed(base)?;
-        self.values_behind_commas(indices)
+        self.values_after_commas(indices)
     }
 
-    fn values_behind_commas(&mut self, values: &[TypedOperand]) -> Result<(), NoMemory>
-        ensures { OnOk result (self.new ≡ self.old ++ behind_commas (map typed_marks values.now)) }
+    fn values_after_commas(&mut self, values: &[TypedOperand]) -> Result<(), NoMemory>
+        ensures { OnOk result (self.new ≡ self.old ++ after_commas (map typed_marks values.now)) }
     {
         for v in values {
             self.comma()?;
@@ -188,13 +188,13 @@ impl Sheet {
             [] => Ok(()),
             [first, more @ ..] => {
                 self.pair(first)?;
-                self.pairs_behind_commas(more)
+                self.pairs_after_commas(more)
             }
         }
     }
 
-    fn pairs_behind_commas(&mut self, pairs: &[Pair]) -> Result<(), NoMemory>
-        ensures { OnOk result (self.new ≡ self.old ++ behind_commas (map pair_marks pairs.now)) }
+    fn pairs_after_commas(&mut self, pairs: &[Pair]) -> Result<(), NoMemory>
+        ensures { OnOk result (self.new ≡ self.old ++ after_commas (map pair_marks pairs.now)) }
     {
         for pair in pairs {
             self.comma()?;
@@ -237,7 +237,7 @@ impl Sheet {
             [] => Ok(()),
             [first, more @ ..] => {
                 self.typed(first)?;
-                self.values_behind_commas(more)
+                self.values_after_commas(more)
             }
         }
     }

@@ -87,7 +87,7 @@ impl<'a> Page<'a> {
         self.text
     }
 
-    /// Puts the lines of these marks behind the text.
+    /// Puts the lines of these marks after the text.
     fn lines(&mut self, kind: Kind, locals: &[Text], marks: &[Mark]) -> Result<(), NoMemory>
         ensures { OnOk result (self.new ≡ with_lines self.old kind locals.now marks.now) }
     {

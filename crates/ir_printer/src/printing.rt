@@ -15,7 +15,7 @@ use ir_core::{Declaration, Func, GlobalVar, Module, TypeDef};
 use oi_base::{Items, NoMemory, Text};
 use std::alloc::Global;
 
-/// The text of a readable module in clang's layout (LangRef, "Module Structure"): an instruction a line behind two blanks,
+/// The text of a readable module in clang's layout (LangRef, "Module Structure"): an instruction a line after two blanks,
 /// each block with its label, and a blank line before a function and where the kind of entity changes. Every name is
 /// printed, in quotes where it needs them, and entities stand in an order in which symbols and type names first appear in
 /// the module's order. So the text is read as the module, but for places, and within the limits where the module was read
@@ -30,7 +30,7 @@ pub fn print_module(alloc: Global, m: &Module) -> Result<Vec<u8>, NoMemory>
     text_of(alloc, m)
 }
 
-/// The text of a module: one entity behind the other, in an order in which symbols and type names first appear in the
+/// The text of a module: one entity after the other, in an order in which symbols and type names first appear in the
 /// module's order, where there is one.
 #[tactic(auto, unfolding(crate::specs::Printed::printed))]
 fn text_of(alloc: Global, m: &Module) -> Result<Vec<u8>, NoMemory>

@@ -2,7 +2,7 @@ ghost use Rattle.std.specs.Prelude.{◌≡◌, ◌++◌, ◌∷◌, [], ◌<◌,
 ghost use Rattle.std.specs.List.{list_all};
 ghost use Rattle.std.specs.Fmt.{digit_glyph, signed_decimal};
 ghost use Rattle.ir_lexer.specs.Alphabet.{is_run_byte};
-ghost use Rattle.ir_printer.specs.Layout.{name_at, stands_for_itself, escaped, quoted, is_run, spelled_name, spelled, is_tight, gap_behind, mark_text, marks_text};
+ghost use Rattle.ir_printer.specs.Layout.{name_at, stands_for_itself, escaped, quoted, is_run, spelled_name, spelled, is_tight, gap_after, mark_text, marks_text};
 
 use crate::marks::Mark;
 use oi_base::{NoMemory, Text};
@@ -146,8 +146,8 @@ pub fn push_name(text: &mut Vec<u8>, name: &[u8]) -> Result<(), NoMemory>
     }
 }
 
-/// A name behind a sign.
-fn push_name_behind(text: &mut Vec<u8>, sign: u8, name: &[u8]) -> Result<(), NoMemory>
+/// A name after a sign.
+fn push_name_after(text: &mut Vec<u8>, sign: u8, name: &[u8]) -> Result<(), NoMemory>
     ensures { OnOk result (text.new.items ≡ text.old.items ++ sign ∷ spelled_name name.now) }
 {
     push_byte(text, sign)?;
@@ -189,9 +189,9 @@ fn push_spelled(
         Mark::Int(value) => push_int(alloc, text, *value),
         Mark::Str(said) => push_quoted(text, said.as_slice()),
         Mark::CStr(said) => push_cstring(text, said.as_slice()),
-        Mark::Symbol(name) => push_name_behind(text, b'@', names.symbol(name.0)),
-        Mark::TypeName(name) => push_name_behind(text, b'%', names.type_name(name.0)),
-        Mark::Local(name) => push_name_behind(text, b'%', names.local(name.0)),
+        Mark::Symbol(name) => push_name_after(text, b'@', names.symbol(name.0)),
+        Mark::TypeName(name) => push_name_after(text, b'%', names.type_name(name.0)),
+        Mark::Local(name) => push_name_after(text, b'%', names.local(name.0)),
         Mark::Label(name) => push_label(text, names.local(name.0)),
         Mark::Spaced(sign) => push_byte(text, sign.byte()),
         Mark::Closing(sign) => push_byte(text, sign.byte()),
@@ -213,8 +213,8 @@ fn is_tight(mark: &Mark) -> bool
 }
 
 /// What stands between a mark and the next token.
-fn gap_behind(mark: &Mark) -> &'static [u8]
-    ensures { result.now ≡ gap_behind mark.now }
+fn gap_after(mark: &Mark) -> &'static [u8]
+    ensures { result.now ≡ gap_after mark.now }
 {
     match mark {
         Mark::Opening(_) | Mark::Joined(_) => b"",
@@ -252,7 +252,7 @@ pub fn push_marks(
     let mut gap: &[u8] = b"";
     for mark in marks {
         push_mark(alloc, text, names, gap, mark)?;
-        gap = gap_behind(mark);
+        gap = gap_after(mark);
     }
     Ok(())
 }

@@ -1,5 +1,6 @@
 ghost use Rattle.std.specs.Prelude.{◌≡◌};
-ghost use Rattle.ir_printer.specs.Words.{word_text, width_text, bin_text, order_text, cast_text};
+ghost use Rattle.ir_core.specs.Opcodes.{width_text};
+ghost use Rattle.ir_printer.specs.Words.{word_text};
 
 use ir_core::{BinOp, CastOp, Cmp};
 use oi_base::Width;
@@ -54,10 +55,10 @@ impl Word {
         match self {
             Word::Align => "align",
             Word::Alloca => "alloca",
-            Word::Bin(op) => bin_text(op),
+            Word::Bin(op) => op.text(),
             Word::Br => "br",
             Word::Call => "call",
-            Word::Cast(op) => cast_text(op),
+            Word::Cast(op) => op.text(),
             Word::Constant => "constant",
             Word::DataLayout => "datalayout",
             Word::Declare => "declare",
@@ -72,7 +73,7 @@ impl Word {
             Word::Load => "load",
             Word::NoInline => "noinline",
             Word::Null => "null",
-            Word::Order(order) => order_text(order),
+            Word::Order(order) => order.text(),
             Word::Phi => "phi",
             Word::Poison => "poison",
             Word::Ptr => "ptr",
@@ -102,52 +103,5 @@ fn width_text(width: Width) -> &'static str
         Width::W8 => "i8",
         Width::W16 => "i16",
         Width::W32 => "i32",
-    }
-}
-
-fn bin_text(op: BinOp) -> &'static str
-    ensures { result.now ≡ bin_text op }
-{
-    match op {
-        BinOp::Add => "add",
-        BinOp::Sub => "sub",
-        BinOp::Mul => "mul",
-        BinOp::Udiv => "udiv",
-        BinOp::Sdiv => "sdiv",
-        BinOp::Urem => "urem",
-        BinOp::Srem => "srem",
-        BinOp::Shl => "shl",
-        BinOp::Lshr => "lshr",
-        BinOp::Ashr => "ashr",
-        BinOp::And => "and",
-        BinOp::Or => "or",
-        BinOp::Xor => "xor",
-    }
-}
-
-fn order_text(order: Cmp) -> &'static str
-    ensures { result.now ≡ order_text order }
-{
-    match order {
-        Cmp::Eq => "eq",
-        Cmp::Ne => "ne",
-        Cmp::Ugt => "ugt",
-        Cmp::Uge => "uge",
-        Cmp::Ult => "ult",
-        Cmp::Ule => "ule",
-        Cmp::Sgt => "sgt",
-        Cmp::Sge => "sge",
-        Cmp::Slt => "slt",
-        Cmp::Sle => "sle",
-    }
-}
-
-fn cast_text(op: CastOp) -> &'static str
-    ensures { result.now ≡ cast_text op }
-{
-    match op {
-        CastOp::Zext => "zext",
-        CastOp::Sext => "sext",
-        CastOp::Trunc => "trunc",
     }
 }

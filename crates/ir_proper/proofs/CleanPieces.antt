@@ -11,7 +11,7 @@ use Rattle.ir_lexer.specs.Alphabet.{is_run_byte}
 use Rattle.ir_lexer.specs.Strings.{is_name}
 use Rattle.ir_lexer.specs.Spellings.{Names as Named, Spells}
 use Rattle.ir_lexer.specs.Lexing.{Unread, next_token, is_end, whole}
-use Rattle.ir_lexer.proofs.Behind.{in_parts}
+use Rattle.ir_lexer.proofs.After.{in_parts}
 use Rattle.ir_grammar.specs.Pieces.{Piece, then_more, pieces_at, pieces_of, pieces}
 use Rattle.ir_proper.proofs.Kept.{IsClean, CleanToken, Clean}
 

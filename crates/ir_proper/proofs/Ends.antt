@@ -5,7 +5,7 @@ use Rattle.ir_grammar.specs.Names.{Names}
 use Rattle.ir_grammar.specs.Sets.{Set}
 use Rattle.ir_grammar.specs.Forms.{Form, ◌>>=◌, Rounds, rounds}
 
--- what is read and the names behind it are so
+-- what is read and the names after it are so
 pub record Ends {A : Type 0} (f : Form A) (Q : A → Names → Type 0) : Type 0 where
   pub so : (s : Names) (u : List Piece) (a : A) (t : Names) → f.reads s u a t → Q a t
 

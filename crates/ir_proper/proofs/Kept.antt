@@ -1,4 +1,4 @@
--- What a reading keeps. Where a form is read names are only put behind those that are there, no name stands twice in one, each symbol is
+-- What a reading keeps. Where a form is read names are only put after those that are there, no name stands twice in one, each symbol is
 -- proper, and what is read is right in view of all names that there are in the end. Each way of making forms keeps this.
 use Rattle.std.proofs.Common.{◌≡◌, ◌≢◌, inl, inr, ℕ, ◌≤◌, zero, suc, Bool, true, false, List, [], ◌∷◌, ◌++◌, length, refl, sym, ap, ◌∙◌, subst, arith}
 use Rattle.std.specs.Prelude.{⊤}
@@ -11,7 +11,7 @@ use Rattle.ir_grammar.specs.Pieces.{Piece, Is, Bad}
 use Rattle.ir_grammar.specs.Names.{Names, Begins}
 use Rattle.ir_grammar.specs.Sets.{Set}
 use Rattle.ir_grammar.specs.Forms.{Form, act, ret, Verdict, Takes, token, ◌>>=◌, either, choose, Rounds, rounds, located}
-use Rattle.ir_grammar.specs.Tokens.{expect, sign, skip, many, behind_comma, listed}
+use Rattle.ir_grammar.specs.Tokens.{expect, sign, skip, many, after_comma, listed}
 
 -- ---- all of a list
 
@@ -19,13 +19,13 @@ pub each_append : {A : Type 0} (P : A → Type 0) (xs ys : List A) → Each P xs
 each_append P [] ys h k = k
 each_append P (x ∷ xs) ys h k = (h.0, each_append P xs ys h.1 k)
 
-pub each_front : {A : Type 0} (P : A → Type 0) (xs ys : List A) → Each P (xs ++ ys) → Each P xs
-each_front P [] ys h = tt
-each_front P (x ∷ xs) ys h = (h.0, each_front P xs ys h.1)
+pub each_left : {A : Type 0} (P : A → Type 0) (xs ys : List A) → Each P (xs ++ ys) → Each P xs
+each_left P [] ys h = tt
+each_left P (x ∷ xs) ys h = (h.0, each_left P xs ys h.1)
 
-pub each_back : {A : Type 0} (P : A → Type 0) (xs ys : List A) → Each P (xs ++ ys) → Each P ys
-each_back P [] ys h = h
-each_back P (x ∷ xs) ys h = each_back P xs ys h.1
+pub each_right : {A : Type 0} (P : A → Type 0) (xs ys : List A) → Each P (xs ++ ys) → Each P ys
+each_right P [] ys h = h
+each_right P (x ∷ xs) ys h = each_right P xs ys h.1
 
 pub each_push : {A : Type 0} (P : A → Type 0) (xs : List A) (y : A) → Each P xs → P y → Each P (xs ++ y ∷ [])
 each_push P xs y h k = each_append P xs (y ∷ []) h (k, tt)
@@ -149,8 +149,8 @@ keeps_then {A = A} {B = B} {b = b} {n = n} {H = H} {f = f} {g = g} {P = P} {Q = 
   grows = λ s u x t r. grows_then b s r.1 t (hf.grows s r.2 r.0 r.1 r.5) ((hg r.0).grows r.1 r.3 x t r.6);
   holds = λ h s u x t c w r k.
       let clean = subst Clean r.4 c in
-      let first = hf.holds h s r.2 r.0 r.1 (each_front CleanPiece r.2 r.3 clean) w r.5 (grows_then b r.1 t n ((hg r.0).grows r.1 r.3 x t r.6) k) in
-      (hg r.0).holds (first.0, h) r.1 r.3 x t (each_back CleanPiece r.2 r.3 clean) first.1 r.6 k;
+      let first = hf.holds h s r.2 r.0 r.1 (each_left CleanPiece r.2 r.3 clean) w r.5 (grows_then b r.1 t n ((hg r.0).grows r.1 r.3 x t r.6) k) in
+      (hg r.0).holds (first.0, h) r.1 r.3 x t (each_right CleanPiece r.2 r.3 clean) first.1 r.6 k;
 }
 
 -- ---- one form or another
@@ -187,8 +187,8 @@ keeps_rounds {X = X} {Y = Y} {b = b} {n = n} {H = H} z {go = go} {stop = stop} I
     right zero x i h s u y t c w r k = (hs x).holds (i, h) s u y t c w r k
     right (suc m) x i h s u y t c w r k =
         let clean = subst Clean r.4 c in
-        let first = (hg x).holds (i, h) s r.2 r.0 r.1 (each_front CleanPiece r.2 r.3 clean) w r.5 (grows_then b r.1 t n (more m r.0 r.1 r.3 y t r.6) k) in
-        right m r.0 first.0 h r.1 r.3 y t (each_back CleanPiece r.2 r.3 clean) first.1 r.6 k
+        let first = (hg x).holds (i, h) s r.2 r.0 r.1 (each_left CleanPiece r.2 r.3 clean) w r.5 (grows_then b r.1 t n (more m r.0 r.1 r.3 y t r.6) k) in
+        right m r.0 first.0 h r.1 r.3 y t (each_right CleanPiece r.2 r.3 clean) first.1 r.6 k
 
 -- ---- a form with its place
 
@@ -203,8 +203,8 @@ keeps_located h = record {
 pub keeps_skip : {b : Bool} {n : Names} {H : Type 0} (z : Set) {f : Form Unit} → Keeps b n H f Any → Keeps b n H (skip z f) Any
 keeps_skip z h = keeps_rounds (λ x. z) Any (λ (x : Unit). keeps_if h (λ g. g.1)) (λ (x : Unit). keeps_ret tt (λ g. tt)) tt (λ g. tt)
 
-pub keeps_behind_comma : {A : Type 0} {b : Bool} {n : Names} {H : Type 0} {f : Form A} {P : A → Type 0} → Keeps b n H f P → Keeps b n H (behind_comma f) P
-keeps_behind_comma h = keeps_then (keeps_expect (sign 44)) (λ (c : Unit). keeps_if h (λ g. g.1))
+pub keeps_after_comma : {A : Type 0} {b : Bool} {n : Names} {H : Type 0} {f : Form A} {P : A → Type 0} → Keeps b n H f P → Keeps b n H (after_comma f) P
+keeps_after_comma h = keeps_then (keeps_expect (sign 44)) (λ (c : Unit). keeps_if h (λ g. g.1))
 
 pub keeps_many : {A : Type 0} {b : Bool} {n : Names} {H : Type 0} (z : Set) {f : Form A} (P : A → Type 0) → Keeps b n H f P → (xs : List A) → (H → Each P xs) → Keeps b n H (many z f xs) (Each P)
 keeps_many {A = A} z P h xs e =
@@ -214,5 +214,5 @@ keeps_many {A = A} z P h xs e =
 
 pub keeps_listed : {A : Type 0} {b : Bool} {n : Names} {H : Type 0} (z : Set) {f : Form A} (P : A → Type 0) → Keeps b n H f P → Keeps b n H (listed z f) (Each P)
 keeps_listed {A = A} z P h =
-    keeps_either z (keeps_then h (λ (a : A). keeps_many (sign 44) P (keeps_behind_comma (keeps_if h (λ g. g.1))) (a ∷ []) (λ g. (g.0, tt))))
+    keeps_either z (keeps_then h (λ (a : A). keeps_many (sign 44) P (keeps_after_comma (keeps_if h (λ g. g.1))) (a ∷ []) (λ g. (g.0, tt))))
     (keeps_ret [] (λ g. tt))

@@ -18,7 +18,7 @@ use Rattle.ir_grammar.specs.Tokens.{Limits, sign, kind}
 use Rattle.ir_grammar.specs.Groups.{inside, group}
 use Rattle.ir_grammar.specs.Values.{gep_word, value_set}
 use Rattle.ir_grammar.specs.Attributes.{meta, node, note_rest, note, notes, attribute_words, attribute_argument, attribute_value, attribute_set, attribute, marked, one_mark, attribute_list, mark_or_note_set, mark_or_note, attributes_and_notes, not_word, any_attribute, more_set, more, no_integer, last, argument_value, argument}
-use Rattle.ir_proper.proofs.Kept.{Fine, Grows, grows_same, Any, Keeps, keeps_ret, keeps_any, keeps_expect, keeps_then, keeps_either, keeps_rounds, keeps_skip, keeps_behind_comma}
+use Rattle.ir_proper.proofs.Kept.{Fine, Grows, grows_same, Any, Keeps, keeps_ret, keeps_any, keeps_expect, keeps_then, keeps_either, keeps_rounds, keeps_skip, keeps_after_comma}
 use Rattle.ir_proper.proofs.KeptTokens.{keeps_text, keeps_int}
 use Rattle.ir_proper.proofs.Good.{GoodOperand, GoodTyped}
 use Rattle.ir_proper.proofs.KeptTypes.{keeps_type}
@@ -55,7 +55,7 @@ keeps_note = keeps_then keeps_meta (λ (m : Unit). keeps_note_rest)
 
 pub keeps_notes : {b : Bool} {n : Names} {H : Type 0} → Keeps b n H notes Any
 unfolding notes
-keeps_notes = keeps_skip (sign 44) (keeps_behind_comma keeps_note)
+keeps_notes = keeps_skip (sign 44) (keeps_after_comma keeps_note)
 
 -- ---- attributes
 

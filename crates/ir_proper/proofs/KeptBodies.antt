@@ -24,8 +24,8 @@ use Rattle.ir_grammar.specs.Tokens.{Limits, sign, word, kind}
 use Rattle.ir_grammar.specs.Types.{type_set}
 use Rattle.ir_grammar.specs.Values.{gep_word}
 use Rattle.ir_grammar.specs.Operations.{call_words, store_word, Line, other_line, other_line_set, line, line_set, instr_at, instr}
-use Rattle.ir_grammar.specs.Bodies.{label, void_word, Ended, void_end, ret_end, label_word, br_end, switch_case, switch_end, unreachable_end, end_form, with_instr, code, finish, lines, labelled, unlabelled, block_of, grown, block, valued, settled, begun, local_behind, gep_behind, plain_value_set, value_behind, other_lines, other_unlabelled, other_block, behind_void, next_block, next_set, all_blocks, more_blocks, body}
-use Rattle.ir_proper.proofs.Kept.{each_front, each_back, each_push, Keeps, keeps_ret, keeps_expect, keeps_then, keeps_either, keeps_rounds, keeps_located, keeps_behind_comma, keeps_many}
+use Rattle.ir_grammar.specs.Bodies.{label, void_word, Ended, void_end, ret_end, label_word, br_end, switch_case, switch_end, unreachable_end, end_form, with_instr, code, finish, lines, labelled, unlabelled, block_of, grown, block, valued, settled, begun, local_after, gep_after, plain_value_set, value_after, other_lines, other_unlabelled, other_block, after_void, next_block, next_set, all_blocks, more_blocks, body}
+use Rattle.ir_proper.proofs.Kept.{each_left, each_right, each_push, Keeps, keeps_ret, keeps_expect, keeps_then, keeps_either, keeps_rounds, keeps_located, keeps_after_comma, keeps_many}
 use Rattle.ir_proper.proofs.KeptNames.{KnownLocal, keeps_local, keeps_define, keeps_define_next}
 use Rattle.ir_proper.proofs.KeptTokens.{keeps_text}
 use Rattle.ir_proper.proofs.Good.{each_map, each_more, GoodType, GoodOperand, GoodTyped, GoodValue}
@@ -69,7 +69,7 @@ GoodEnded n e = GoodEnd n e.0
 keeps_void_end : {n : Names} {H : Type 0} → Keeps true n H void_end (GoodEnded n)
 unfolding void_end
 keeps_void_end =
-    keeps_then (keeps_expect void_word) (λ (w : Unit). keeps_either (sign 44) (keeps_then (keeps_behind_comma keeps_note) (λ (m : Unit). keeps_then keeps_notes (λ (e : Unit). keeps_ret (ends.Ret None, false) (λ g. record { values = tt; types = tt; targets = tt }))))
+    keeps_then (keeps_expect void_word) (λ (w : Unit). keeps_either (sign 44) (keeps_then (keeps_after_comma keeps_note) (λ (m : Unit). keeps_then keeps_notes (λ (e : Unit). keeps_ret (ends.Ret None, false) (λ g. record { values = tt; types = tt; targets = tt }))))
     (keeps_ret (ends.Ret None, true) (λ g. record { values = tt; types = tt; targets = tt })))
 
 keeps_ret_end : {n : Names} {H : Type 0} (l : Limits) → Keeps true n H (ret_end l) (GoodEnded n)
@@ -170,36 +170,36 @@ unfolding block
 keeps_block {n = n} l bs e =
     keeps_then (keeps_located (keeps_either (kind kinds.Label) (keeps_labelled l) (keeps_unlabelled l))) (λ (x : Place × Lines). keeps_ret (grown bs x.1.bare (block_of x.0 x.1)) (λ g. grown_good l n bs x.1.bare (block_of x.0 x.1) (e g.1) (good_lines l n x.0 x.1 g.0)))
 
--- ---- behind `ret void`
+-- ---- after `ret void`
 
 settled_good : (l : Limits) (n : Names) (bs : List Block) (b : Block) (v : Operand) → Each (GoodBlock l n) (bs ++ b ∷ []) → GoodOperand n v → GoodProgress l n (settled bs b v)
 settled_good l n bs b v h k =
-    let last = (each_back (GoodBlock l n) bs (b ∷ []) h).0 in
-    blocks_push l n bs (valued b v) (each_front (GoodBlock l n) bs (b ∷ []) h) (record { label = last.label; code = last.code; end = record { values = (k, tt); types = (tt, tt); targets = tt } })
+    let last = (each_right (GoodBlock l n) bs (b ∷ []) h).0 in
+    blocks_push l n bs (valued b v) (each_left (GoodBlock l n) bs (b ∷ []) h) (record { label = last.label; code = last.code; end = record { values = (k, tt); types = (tt, tt); targets = tt } })
 
 keeps_begun : {n : Names} {H : Type 0} (l : Limits) (bs : List Block) (p : Place) (k r : LocalId) (o : Op) → (H → Each (GoodBlock l n) bs) → (H → KnownLocal n k) → (H → GoodLine l n (Some r, o)) → Keeps true n H (begun l bs p (k, (r, o))) (GoodProgress l n)
 keeps_begun {n = n} l bs p k r o e h i =
     keeps_then (keeps_lines l k (record { place = p; result = Some r; op = o } ∷ []) h (λ g. (good_instr l n p (Some (Some r, o)) (i g), tt))) (λ (y : Lines). keeps_ret (grown bs y.bare (block_of p y)) (λ g. grown_good l n bs y.bare (block_of p y) (e g.1) (good_lines l n p y g.0)))
 
-keeps_local_behind : {n : Names} {H : Type 0} (l : Limits) (bs : List Block) (b : Block) → (H → Each (GoodBlock l n) (bs ++ b ∷ [])) → Keeps true n H (local_behind l bs b) (GoodProgress l n)
-unfolding local_behind
-keeps_local_behind {n = n} l bs b e =
+keeps_local_after : {n : Names} {H : Type 0} (l : Limits) (bs : List Block) (b : Block) → (H → Each (GoodBlock l n) (bs ++ b ∷ [])) → Keeps true n H (local_after l bs b) (GoodProgress l n)
+unfolding local_after
+keeps_local_after {n = n} l bs b e =
     keeps_then (keeps_located (keeps_text kinds.Local)) (λ (name : Place × List ℕ). keeps_either (sign 61)
     (keeps_then (keeps_expect (sign 61)) (λ (c : Unit). keeps_then keeps_define_next (λ (k : LocalId). keeps_then (keeps_define name.1) (λ (r : LocalId). keeps_then (keeps_op l) (λ (o : Op).
     keeps_begun l (bs ++ b ∷ []) name.0 k r o (λ g. e g.1.1.1.1.1) (λ g. g.1.1.0) (λ g. with_result l n r o g.0 g.1.0))))))
     (keeps_then (keeps_local name.1) (λ (x : LocalId). keeps_then keeps_notes (λ (m : Unit). keeps_ret (settled bs b (operands.Local x)) (λ g. settled_good l n bs b (operands.Local x) (e g.1.1.1) g.1.0)))))
 
-keeps_gep_behind : {n : Names} {H : Type 0} (l : Limits) (bs : List Block) (b : Block) → (H → Each (GoodBlock l n) (bs ++ b ∷ [])) → Keeps true n H (gep_behind l bs b) (GoodProgress l n)
-unfolding gep_behind
-keeps_gep_behind {n = n} l bs b e =
+keeps_gep_after : {n : Names} {H : Type 0} (l : Limits) (bs : List Block) (b : Block) → (H → Each (GoodBlock l n) (bs ++ b ∷ [])) → Keeps true n H (gep_after l bs b) (GoodProgress l n)
+unfolding gep_after
+keeps_gep_after {n = n} l bs b e =
     keeps_then (keeps_located (keeps_expect gep_word)) (λ (x : Place × Unit). keeps_then keeps_gep_flags (λ (f : Unit). keeps_either (sign 40)
     (keeps_then (keeps_gep_rest l.length l.levels) (λ (c : Const). keeps_then keeps_notes (λ (m : Unit). keeps_ret (settled bs b (operands.Const c)) (λ g. settled_good l n bs b (operands.Const c) (e g.1.1.1.1) g.1.0))))
     (keeps_then keeps_define_next (λ (k : LocalId). keeps_then keeps_define_next (λ (r : LocalId). keeps_then (keeps_gep_op_rest l) (λ (o : Op).
     keeps_begun l (bs ++ b ∷ []) x.0 k r o (λ g. e g.1.1.1.1.1) (λ g. g.1.1.0) (λ g. with_result l n r o g.0 g.1.0)))))))
 
-keeps_value_behind : {n : Names} {H : Type 0} (l : Limits) (bs : List Block) (b : Block) → (H → Each (GoodBlock l n) (bs ++ b ∷ [])) → Keeps true n H (value_behind bs b) (GoodProgress l n)
-unfolding value_behind
-keeps_value_behind {n = n} l bs b e =
+keeps_value_after : {n : Names} {H : Type 0} (l : Limits) (bs : List Block) (b : Block) → (H → Each (GoodBlock l n) (bs ++ b ∷ [])) → Keeps true n H (value_after bs b) (GoodProgress l n)
+unfolding value_after
+keeps_value_after {n = n} l bs b e =
     keeps_then (keeps_either (kind kinds.Global) {P = GoodValue n} keeps_address (keeps_either (kind kinds.Int) keeps_integer keeps_const_word)) (λ (c : Const). keeps_then keeps_notes (λ (m : Unit). keeps_ret (settled bs b (operands.Const c)) (λ g. settled_good l n bs b (operands.Const c) (e g.1.1) g.1.0)))
 
 keeps_other_lines : {n : Names} {H : Type 0} (l : Limits) (b : LocalId) → (H → KnownLocal n b) → Keeps true n H (other_lines l b) (GoodLines l n)
@@ -217,15 +217,15 @@ unfolding other_block
 keeps_other_block {n = n} l bs e =
     keeps_then (keeps_located (keeps_either (kind kinds.Label) (keeps_labelled l) (keeps_other_unlabelled l))) (λ (x : Place × Lines). keeps_ret (grown bs x.1.bare (block_of x.0 x.1)) (λ g. grown_good l n bs x.1.bare (block_of x.0 x.1) (e g.1) (good_lines l n x.0 x.1 g.0)))
 
-keeps_behind_void : {n : Names} {H : Type 0} (l : Limits) (bs : List Block) (b : Block) → (H → Each (GoodBlock l n) (bs ++ b ∷ [])) → Keeps true n H (behind_void l bs b) (GoodProgress l n)
-unfolding behind_void
-keeps_behind_void l bs b e = keeps_either (kind kinds.Local) (keeps_local_behind l bs b e) (keeps_either gep_word (keeps_gep_behind l bs b e) (keeps_either plain_value_set (keeps_value_behind l bs b e) (keeps_other_block l (bs ++ b ∷ []) e)))
+keeps_after_void : {n : Names} {H : Type 0} (l : Limits) (bs : List Block) (b : Block) → (H → Each (GoodBlock l n) (bs ++ b ∷ [])) → Keeps true n H (after_void l bs b) (GoodProgress l n)
+unfolding after_void
+keeps_after_void l bs b e = keeps_either (kind kinds.Local) (keeps_local_after l bs b e) (keeps_either gep_word (keeps_gep_after l bs b e) (keeps_either plain_value_set (keeps_value_after l bs b e) (keeps_other_block l (bs ++ b ∷ []) e)))
 
 -- ---- bodies
 
 keeps_next_block : {n : Names} {H : Type 0} (l : Limits) (bs : List Block) (o : Option Block) → (H → Each (GoodBlock l n) (all_blocks bs o)) → Keeps true n H (next_block l bs o) (GoodProgress l n)
 keeps_next_block l bs None e = keeps_block l bs e
-keeps_next_block l bs (Some b) e = keeps_behind_void l bs b e
+keeps_next_block l bs (Some b) e = keeps_after_void l bs b e
 
 keeps_more_blocks : {n : Names} {H : Type 0} (l : Limits) (p : Progress) → (H → GoodProgress l n p) → Keeps true n H (more_blocks l p) (GoodBlocks l n)
 unfolding more_blocks

@@ -17,7 +17,7 @@ use Rattle.ir_grammar.specs.Tokens.{Limits, text}
 use Rattle.ir_grammar.specs.Types.{type_form}
 use Rattle.ir_grammar.specs.Groups.{group}
 use Rattle.ir_grammar.specs.Operations.{call_end, is_lifetime, Line, result_of, called, keep_types, lifetime, types_so_far, unnamed_call}
-use Rattle.ir_proper.proofs.Kept.{each_front, each_back, IsClean, CleanPiece, Clean, Once, Fine, Grows, grows_same, grows_then, Keeps, keeps_ret, keeps_act, keeps_then}
+use Rattle.ir_proper.proofs.Kept.{each_left, each_right, IsClean, CleanPiece, Clean, Once, Fine, Grows, grows_same, grows_then, Keeps, keeps_ret, keeps_act, keeps_then}
 use Rattle.ir_proper.proofs.KeptNames.{KnownLocal, keeps_symbol, define_next_grows, define_next_right}
 use Rattle.ir_proper.proofs.KeptTokens.{keeps_global_text}
 use Rattle.ir_proper.proofs.Good.{GoodType, NotVoid}
@@ -57,7 +57,7 @@ keeps_called {n = n} l t name e =
     keeps_then (keeps_arguments l) (λ (as' : List TypedOperand). keeps_ret (Some (r, ops.Call t f as'))
     (λ g. record { op = good_call l n t f as' (e g.1.1.1).0 g.1.1.0 g.0.0 g.0.1; known = g.1.0.0; result = g.1.0.1 f as' }))))
 
--- with what stands behind it
+-- with what stands after it
 abbrev Closed : Form Line → Form Line
 Closed f = f >>= λ r. call_end >>= λ e. ret r
 
@@ -66,7 +66,7 @@ keeps_closed h = keeps_then h (λ (r : Line). keeps_then keeps_call_end (λ (e :
 
 -- ---- a call that is skipped
 
--- behind the group only so many type names are left
+-- after the group only so many type names are left
 record Skipped (k : ℕ) (s : Names) (u : List Piece) (r : Line) (t : Names) : Type 0 where
   before : Names
   noinline : Bool
@@ -78,20 +78,20 @@ record Skipped (k : ℕ) (s : Names) (u : List Piece) (r : Line) (t : Names) : T
 
 skipped : (k : ℕ) (s : Names) (u : List Piece) (r : Line) (t : Names) → (lifetime k).reads s u r t → Skipped k s u r t
 unfolding lifetime
-skipped k s u r t h = behind h.6
+skipped k s u r t h = after h.6
   where
-    behind : (act (keep_types k) >>= (λ (x : Unit). ret None)).reads h.1 h.3 r t → Skipped k s u r t
-    behind b = record {
+    after : (act (keep_types k) >>= (λ (x : Unit). ret None)).reads h.1 h.3 r t → Skipped k s u r t
+    after b = record {
       before = h.1;
       noinline = h.0;
       pieces = h.2;
       reads = h.5;
       names = sym (ap (λ (q : Line × Names). q.1) b.6.1) ∙ sym (ap (λ (q : Unit × Names). q.1) b.5.1);
       nothing = sym (ap (λ (q : Line × Names). q.0) b.6.1);
-      clean = λ c. each_front CleanPiece h.2 h.3 (subst Clean h.4 c);
+      clean = λ c. each_left CleanPiece h.2 h.3 (subst Clean h.4 c);
     }
 
--- a front of a list with no name twice
+-- a prefix of a list with no name twice
 each_take : (P : List ℕ → Type 0) (k : ℕ) (xs : List (List ℕ)) → Each P xs → Each P (take k xs)
 each_take P zero xs h = tt
 each_take P (suc k) [] h = tt
@@ -144,7 +144,7 @@ none_good l n r e = subst (IfAny (GoodLine l n)) (sym e) tt
 chosen_holds : (l : Limits) (c : Bool) (n : Names) (k : ℕ) (ty : IrType) (name : List ℕ) (s : Names) (u : List Piece) (x : Line) (t : Names) → Clean u → Fine s → (Grows true s n → GoodType n ty × IsClean name) → (Chosen l c k ty name).reads s u x t → Grows true t n → IfAny (GoodLine l n) x × Fine t
 chosen_holds l true n k ty name s u x t c w e r g =
     let clean = subst Clean r.4 c in
-    (keeps_end {l = l} {n = n} {H = IfAny (GoodLine l n) r.0} r.0 (λ h. h)).holds (none_good l n r.0 (skipped k s r.2 r.0 r.1 r.5).nothing) r.1 r.3 x t (each_back CleanPiece r.2 r.3 clean) (skipped_fine k s r.2 r.0 r.1 (each_front CleanPiece r.2 r.3 clean) w r.5) r.6 g
+    (keeps_end {l = l} {n = n} {H = IfAny (GoodLine l n) r.0} r.0 (λ h. h)).holds (none_good l n r.0 (skipped k s r.2 r.0 r.1 r.5).nothing) r.1 r.3 x t (each_right CleanPiece r.2 r.3 clean) (skipped_fine k s r.2 r.0 r.1 (each_left CleanPiece r.2 r.3 clean) w r.5) r.6 g
 chosen_holds l false n k ty name s u x t c w e r g =
     let all = called_closed l n ty name in
     all.holds (e (grows_then true s t n (all.grows s u x t r) g)) s u x t c w r g
@@ -170,17 +170,17 @@ typed_grows l s u x t r = named_grows l r.0 s r.1 r.3 x t ((type_keeps l s).grow
 named_holds : (l : Limits) (n : Names) (k : ℕ) (ty : IrType) (s : Names) (u : List Piece) (x : Line) (t : Names) → Clean u → Fine s → (Grows true s n → GoodType n ty) → (Named_type l k ty).reads s u x t → Grows true t n → IfAny (GoodLine l n) x × Fine t
 named_holds l n k ty s u x t c w e r g =
     let clean = subst Clean r.4 c in
-    let front = each_front CleanPiece r.2 r.3 clean in
+    let front = each_left CleanPiece r.2 r.3 clean in
     let more = (text_keeps r.1).grows s r.2 r.0 r.1 r.5 in
     let name = (text_keeps r.1).holds tt s r.2 r.0 r.1 front w r.5 (grows_same true r.1) in
-    chosen_holds l (is_lifetime r.0) n k ty r.0 r.1 r.3 x t (each_back CleanPiece r.2 r.3 clean) name.1 (λ h. (e (grows_then true s r.1 n more h), name.0)) r.6 g
+    chosen_holds l (is_lifetime r.0) n k ty r.0 r.1 r.3 x t (each_right CleanPiece r.2 r.3 clean) name.1 (λ h. (e (grows_then true s r.1 n more h), name.0)) r.6 g
 
 typed_holds : (l : Limits) (n : Names) (k : ℕ) (s : Names) (u : List Piece) (x : Line) (t : Names) → Clean u → Fine s → (Typed l k).reads s u x t → Grows true t n → IfAny (GoodLine l n) x × Fine t
 typed_holds l n k s u x t c w r g =
     let clean = subst Clean r.4 c in
-    let front = each_front CleanPiece r.2 r.3 clean in
+    let front = each_left CleanPiece r.2 r.3 clean in
     let fine = (type_keeps l r.1).holds tt s r.2 r.0 r.1 front w r.5 (grows_same true r.1) in
-    named_holds l n k r.0 r.1 r.3 x t (each_back CleanPiece r.2 r.3 clean) fine.1 (λ h. ((type_keeps l n).holds tt s r.2 r.0 r.1 front w r.5 h).0) r.6 g
+    named_holds l n k r.0 r.1 r.3 x t (each_right CleanPiece r.2 r.3 clean) fine.1 (λ h. ((type_keeps l n).holds tt s r.2 r.0 r.1 front w r.5 h).0) r.6 g
 
 -- with the number of type names before it
 abbrev Counted : Limits → Form Line
@@ -188,7 +188,7 @@ Counted l = act types_so_far >>= λ k. Typed l k
 
 counted_typed : (l : Limits) (s : Names) (u : List Piece) (x : Line) (t : Names) → (Counted l).reads s u x t → (v : List Piece) × (Clean u → Clean v) × (Typed l (length s.types)).reads s v x t
 counted_typed l s u x t r =
-    (r.3, λ c. each_back CleanPiece r.2 r.3 (subst Clean r.4 c), subst (λ (p : ℕ × Names). (Typed l p.0).reads p.1 r.3 x t) (sym r.5.1) r.6)
+    (r.3, λ c. each_right CleanPiece r.2 r.3 (subst Clean r.4 c), subst (λ (p : ℕ × Names). (Typed l p.0).reads p.1 r.3 x t) (sym r.5.1) r.6)
 
 keeps_counted : {n : Names} {H : Type 0} (l : Limits) → Keeps true n H (Counted l) (IfAny (GoodLine l n))
 keeps_counted {n = n} l = record {

@@ -7,6 +7,7 @@ use Rattle.std.proofs.lemmas.Bool.Decides.{nat_tests}
 use Rattle.oi_base.specs.declared.ids.Place.{Place}
 use Rattle.ir_lexer.specs.declared.table.Token.{Token}
 use Rattle.ir_lexer.specs.declared.table.Token.TheVariants as tokens
+use Rattle.ir_core.specs.declared.limits.TheConstants.{MOST_FUNCTIONS}
 use Rattle.ir_core.specs.declared.ty.IrType.{IrType}
 use Rattle.ir_core.specs.declared.module.SymId.{SymId}
 use Rattle.ir_core.specs.declared.op.LocalId.{LocalId}
@@ -30,7 +31,7 @@ use Rattle.ir_grammar.specs.Attributes.{no_marks, attribute_list, attributes_and
 use Rattle.ir_grammar.specs.Operations.{in_brackets}
 use Rattle.ir_grammar.specs.Bodies.{body}
 use Rattle.ir_grammar.specs.Entities.{param_name, param, define_if, define_of, without_groups, locals_so_far, forget_locals, definition}
-use Rattle.ir_proper.proofs.Kept.{each_back, CleanPiece, Clean, Fine, begins_same, Grows, grows_same, Any, Keeps, keeps_ret, keeps_act, keeps_token, keeps_then, keeps_either, keeps_located}
+use Rattle.ir_proper.proofs.Kept.{each_right, CleanPiece, Clean, Fine, begins_same, Grows, grows_same, Any, Keeps, keeps_ret, keeps_act, keeps_token, keeps_then, keeps_either, keeps_located}
 use Rattle.ir_proper.proofs.KeptNames.{KnownSymbol, KnownLocal, keeps_define, keeps_define_next}
 use Rattle.ir_proper.proofs.KeptTokens.{keeps_text}
 use Rattle.ir_proper.proofs.Good.{GoodType}
@@ -60,10 +61,10 @@ define_few true true u e = absurd cc
 define_few true false u e = refl
 define_few false past u e = absurd cc
 
-few_before : (k : ℕ) → nat_lt 4096 (k + 1) ≡ false → k + 1 ≤ 4096
+few_before : (k : ℕ) → nat_lt MOST_FUNCTIONS (k + 1) ≡ false → k + 1 ≤ MOST_FUNCTIONS
 few_before k e = grind (arith, nat_tests)
 
-define_right : (l : Limits) (k : ℕ) (t : Token) (u : Unit) → define_of l k t ≡ Takes u → l ≡ stated → k + 1 ≤ 4096
+define_right : (l : Limits) (k : ℕ) (t : Token) (u : Unit) → define_of l k t ≡ Takes u → l ≡ stated → k + 1 ≤ MOST_FUNCTIONS
 define_right l k (tokens.Word w) u e same = few_before k (subst (λ (x : Limits). is_past x.functions (k + 1) ≡ false) same (define_few (bytes_eq w (codes "define")) (is_past l.functions (k + 1)) u e))
 define_right l k (tokens.Int n) u e same = absurd cc
 define_right l k (tokens.Label n) u e same = absurd cc
@@ -76,7 +77,7 @@ define_right l k (tokens.Hash n) u e same = absurd cc
 define_right l k (tokens.Sign n) u e same = absurd cc
 define_right l k tokens.End u e same = absurd cc
 
--- ---- what stands behind it
+-- ---- what stands after it
 
 abbrev made : Place → SymId → Marks → IrType → List Param → List Block → List (List ℕ) → Entity
 made p f m t ps bs names = entities.Define (record {
@@ -135,7 +136,7 @@ pub record GoodFunc (n : Names) (f : Func) : Type 0 where
 
 -- so many definitions came before
 abbrev pub GoodDefine : Names → ℕ → Entity → Type 0
-GoodDefine n k (entities.Define d) = GoodFunc n d.func × (k + 1 ≤ 4096)
+GoodDefine n k (entities.Define d) = GoodFunc n d.func × (k + 1 ≤ MOST_FUNCTIONS)
 GoodDefine n k e = ⊥
 
 -- within the limits of a text
@@ -146,7 +147,7 @@ GoodWithin l n k e = l ≡ stated → GoodDefine n k e
 abbrev within : Names → Names → Names
 within n t = record n { locals = t.locals }
 
-made_good : (n t : Names) (k : ℕ) (e : Entity) → Fine t → MadeWell stated (within n t) e → LocalsAre e t → k + 1 ≤ 4096 → GoodDefine n k e
+made_good : (n t : Names) (k : ℕ) (e : Entity) → Fine t → MadeWell stated (within n t) e → LocalsAre e t → k + 1 ≤ MOST_FUNCTIONS → GoodDefine n k e
 made_good n t k (entities.Define d) w h same few = (
   record {
     proper = proper_func (within n t) d.func h w.locals same;
@@ -175,9 +176,9 @@ Forgetting l p = act forget_locals >>= (λ (u : Unit). Parts_form l p)
 
 -- the parts are read where no locals are left
 forgotten : (l : Limits) (p : Place) (s : Names) (u : List Piece) (e : Entity) (t : Names) → (Forgetting l p).reads s u e t → (v : List Piece) × (Clean u → Clean v) × (Parts_form l p).reads (no_locals s) v e t
-forgotten l p s u e t r = (r.3, λ c. each_back CleanPiece r.2 r.3 (subst Clean r.4 c), subst (λ (q : Unit × Names). (Parts_form l p).reads q.1 r.3 e t) (sym r.5.1) r.6)
+forgotten l p s u e t r = (r.3, λ c. each_right CleanPiece r.2 r.3 (subst Clean r.4 c), subst (λ (q : Unit × Names). (Parts_form l p).reads q.1 r.3 e t) (sym r.5.1) r.6)
 
-keeps_forgetting : {n : Names} {H : Type 0} (l : Limits) (p : Place) (k : ℕ) → (H → l ≡ stated → k + 1 ≤ 4096) → Keeps false n H (Forgetting l p) (GoodWithin l n k)
+keeps_forgetting : {n : Names} {H : Type 0} (l : Limits) (p : Place) (k : ℕ) → (H → l ≡ stated → k + 1 ≤ MOST_FUNCTIONS) → Keeps false n H (Forgetting l p) (GoodWithin l n k)
 keeps_forgetting {n = n} l p k few = record {
   grows = λ s u e t r.
       let y = forgotten l p s u e t r in
@@ -192,4 +193,4 @@ keeps_forgetting {n = n} l p k few = record {
 pub keeps_definition : {n : Names} {H : Type 0} (l : Limits) (k : ℕ) → Keeps false n H (definition l k) (GoodWithin l n k)
 unfolding definition
 keeps_definition l k =
-    keeps_then (keeps_located (keeps_token {P = λ (u : Unit). l ≡ stated → k + 1 ≤ 4096} (define_of l k) (λ g t u c e. define_right l k t u e))) (λ (w : Place × Unit). keeps_forgetting l w.0 k (λ g. g.0))
+    keeps_then (keeps_located (keeps_token {P = λ (u : Unit). l ≡ stated → k + 1 ≤ MOST_FUNCTIONS} (define_of l k) (λ g t u c e. define_right l k t u e))) (λ (w : Place × Unit). keeps_forgetting l w.0 k (λ g. g.0))

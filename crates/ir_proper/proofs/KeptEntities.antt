@@ -4,6 +4,7 @@ use Rattle.std.specs.Prelude.{⊤, ◌||◌, Option, Some, None, codes}
 use Rattle.std.specs.List.{AllByRecursion as Each}
 use Rattle.std.proofs.lemmas.List.{length_push}
 use Rattle.oi_base.specs.declared.ids.Place.{Place}
+use Rattle.ir_core.specs.declared.limits.TheConstants.{MOST_FUNCTIONS}
 use Rattle.ir_core.specs.declared.ty.IrType.{IrType}
 use Rattle.ir_core.specs.declared.ty.TypeName.{TypeName}
 use Rattle.ir_core.specs.declared.ty.TypeDef.{TypeDef}
@@ -23,7 +24,7 @@ use Rattle.ir_grammar.specs.Names.{Names}
 use Rattle.ir_grammar.specs.Tokens.{stated, sign, word, kind, words_of}
 use Rattle.ir_grammar.specs.Attributes.{attribute_set}
 use Rattle.ir_grammar.specs.Operations.{align_word}
-use Rattle.ir_grammar.specs.Entities.{equals, source_word, source_filename, target_word, target_words, target_of, target, attributes_word, group_of, attributes, distinct_word, metadata_rest, metadata, type_def, global_words, linkage, storage_words, global_end, global_var, define_word, declare_word, before_name, declaration, other_entity, entity, no_entities, added, module_of, note_or_metadata, behind_declaration, next_entity, next_set, text_end, text_form}
+use Rattle.ir_grammar.specs.Entities.{equals, source_word, source_filename, target_word, target_words, target_of, target, attributes_word, group_of, attributes, distinct_word, metadata_rest, metadata, type_def, global_words, linkage, storage_words, global_end, global_var, define_word, declare_word, before_name, declaration, other_entity, entity, no_entities, added, module_of, note_or_metadata, after_declaration, next_entity, next_set, text_end, text_form}
 use Rattle.ir_proper.proofs.Kept.{each_push, grows_same, Any, Keeps, keeps_more, keeps_ret, keeps_act, keeps_expect, keeps_then, keeps_either, keeps_rounds, keeps_located, keeps_skip}
 use Rattle.ir_proper.proofs.KeptNames.{KnownSymbol, KnownType, keeps_type_name}
 use Rattle.ir_proper.proofs.KeptTokens.{keeps_any_word, keeps_text, keeps_any_number}
@@ -52,7 +53,7 @@ GoodEntity n k (entities.Triple s) = ⊤
 GoodEntity n k (entities.NoInline s) = ⊤
 GoodEntity n k (entities.Type d) = GoodTypeDef n d
 GoodEntity n k (entities.Global g) = GoodGlobal n g
-GoodEntity n k (entities.Define d) = GoodFunc n d.func × (k + 1 ≤ 4096)
+GoodEntity n k (entities.Define d) = GoodFunc n d.func × (k + 1 ≤ MOST_FUNCTIONS)
 GoodEntity n k (entities.Declare d) = KnownSymbol n d.name
 
 keeps_equals : {b : Bool} {n : Names} {H : Type 0} → Keeps b n H equals Any
@@ -145,7 +146,7 @@ pub record GoodDraft (n : Names) (d : Draft) : Type 0 where
   pub globals : Each (GoodGlobal n) d.globals
   pub definitions : Each (λ (x : Definition). GoodFunc n x.func) d.definitions
   pub declared : Each (λ (x : Declaration). KnownSymbol n x.name) d.declared
-  pub few : length d.definitions ≤ 4096
+  pub few : length d.definitions ≤ MOST_FUNCTIONS
 
 added_good : (n : Names) (d : Draft) (e : Entity) → GoodDraft n d → GoodEntity n (length d.definitions) e → GoodDraft n (added d e)
 added_good n d entities.Nothing h k = record { types = h.types; globals = h.globals; definitions = h.definitions; declared = h.declared; few = h.few }
@@ -169,14 +170,14 @@ keeps_note_or_metadata {n = n} d h =
     keeps_then keeps_meta (λ (m : Unit). keeps_either (kind kinds.Meta ++ sign 33) (keeps_then keeps_note_rest (λ (e : Unit). keeps_ret d (λ g. h g.1.1)))
     (keeps_then keeps_metadata_rest (λ (r : Unit). keeps_ret (added d entities.Nothing) (λ g. added_good n d entities.Nothing (h g.1.1) tt))))
 
-keeps_behind_declaration : {n : Names} {H : Type 0} (d : Draft) → (H → GoodDraft n d) → Keeps false n H (behind_declaration stated d) (GoodDraft n)
-unfolding behind_declaration
-keeps_behind_declaration {n = n} d h =
+keeps_after_declaration : {n : Names} {H : Type 0} (d : Draft) → (H → GoodDraft n d) → Keeps false n H (after_declaration stated d) (GoodDraft n)
+unfolding after_declaration
+keeps_after_declaration {n = n} d h =
     keeps_either (kind kinds.Meta) (keeps_note_or_metadata d h) (keeps_either (attribute_set barred.Nothing) (keeps_then (keeps_attribute barred.Nothing) (λ (a : Attribute). keeps_ret d (λ g. h g.1)))
     (keeps_then (keeps_other_entity (length d.definitions)) (λ (e : Entity). keeps_ret (added d e) (λ g. added_good n d e (h g.1) g.0))))
 
 keeps_next_entity : {n : Names} {H : Type 0} (d : Draft) (c : Bool) → (H → GoodDraft n d) → Keeps false n H (next_entity stated d c) (GoodDraft n)
-keeps_next_entity d true h = keeps_behind_declaration d h
+keeps_next_entity d true h = keeps_after_declaration d h
 keeps_next_entity {n = n} d false h = keeps_then (keeps_entity (length d.definitions)) (λ (e : Entity). keeps_ret (added d e) (λ g. added_good n d e (h g.1) g.0))
 
 -- ---- texts

@@ -10,7 +10,7 @@ use Rattle.std.specs.Fmt.{decimal}
 use Rattle.ir_core.specs.declared.module.SymId.{SymId}
 use Rattle.ir_core.specs.declared.ty.TypeName.{TypeName}
 use Rattle.ir_core.specs.declared.op.LocalId.{LocalId}
-use Rattle.ir_grammar.specs.Names.{Names, Begins, placed, numbered, symbol, type_name, local, next_behind, define, define_next}
+use Rattle.ir_grammar.specs.Names.{Names, Begins, placed, numbered, symbol, type_name, local, next_after, define, define_next}
 use Rattle.ir_grammar.specs.Forms.{act}
 use Rattle.ir_proper.proofs.Kept.{each_push, IsClean, Once, Fine, begins_same, begins_length, LocalsGrow, Grows, Keeps, keeps_act}
 
@@ -19,7 +19,7 @@ pub placed_within : (o : Option ℕ) (name : List ℕ) (xs : List (List ℕ)) �
 placed_within (Some k) name xs h = h k refl
 placed_within None name xs h = let e = length-append xs (name ∷ []) in omega (arith, e)
 
--- the name is put behind the others, or is there
+-- the name is put after the others, or is there
 placed_begins : (o : Option ℕ) (name : List ℕ) (xs : List (List ℕ)) → Begins (placed o name xs).1 xs
 placed_begins (Some k) name xs = begins_same xs
 placed_begins None name xs = (name ∷ [], refl)
@@ -151,11 +151,11 @@ numbered_fine s m w = record { symbols = w.symbols; types = w.types; locals = w.
 
 pub define_grows : (name : List ℕ) (s : Names) → Grows true s (define name s).1
 unfolding define
-define_grows name s = numbered_grows s (next_behind name s.next) _ (local_grows name (record s { next = next_behind name s.next }))
+define_grows name s = numbered_grows s (next_after name s.next) _ (local_grows name (record s { next = next_after name s.next }))
 
 pub define_right : (n : Names) (name : List ℕ) (s : Names) → Fine s → Grows true (define name s).1 n → KnownLocal n (define name s).0 × Fine (define name s).1
 unfolding define
-define_right n name s w k = local_right n name (record s { next = next_behind name s.next }) (numbered_fine s _ w) k
+define_right n name s w k = local_right n name (record s { next = next_after name s.next }) (numbered_fine s _ w) k
 
 pub keeps_define : {n : Names} {H : Type 0} (name : List ℕ) → Keeps true n H (act (define name)) (KnownLocal n)
 keeps_define {n = n} name = keeps_act (define name) (define_grows name) (λ h s w k. define_right n name s w k)

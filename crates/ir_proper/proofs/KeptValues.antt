@@ -19,7 +19,7 @@ use Rattle.ir_grammar.specs.Forms.{Form, Takes, Refuses, Over}
 use Rattle.ir_grammar.specs.Tokens.{Limits, sign, word, kind, one_word}
 use Rattle.ir_grammar.specs.Types.{type_set}
 use Rattle.ir_grammar.specs.Values.{const_words, gep_word, gep_flag, gep_flags, global, index, gep_rest, gep, address, integer, const_at, constant, local_value, value, typed, zero_init, bytes, last_const_of, typed_init, array_init, struct_init, init_at, init}
-use Rattle.ir_proper.proofs.Kept.{Any, Keeps, keeps_more, keeps_if, keeps_ret, keeps_act, keeps_token, keeps_expect, keeps_then, keeps_either, keeps_skip, keeps_behind_comma, keeps_many, keeps_listed}
+use Rattle.ir_proper.proofs.Kept.{Any, Keeps, keeps_more, keeps_if, keeps_ret, keeps_act, keeps_token, keeps_expect, keeps_then, keeps_either, keeps_skip, keeps_after_comma, keeps_many, keeps_listed}
 use Rattle.ir_proper.proofs.KeptNames.{KnownSymbol, keeps_symbol, local_grows, local_right}
 use Rattle.ir_proper.proofs.KeptTokens.{word_right, keeps_word, keeps_text, keeps_global_text, keeps_int}
 use Rattle.ir_proper.proofs.Good.{each_map, GoodType, GoodConst, GoodTypedConst, GoodValue, GoodOperand, GoodTyped, good_array_const, good_struct_const}
@@ -47,7 +47,7 @@ pub keeps_gep_rest : {b : Bool} {n : Names} {H : Type 0} (most : Option ℕ) (le
 unfolding gep_rest
 keeps_gep_rest {n = n} most levels =
     keeps_then (keeps_expect (sign 40)) (λ (o : Unit). keeps_then (keeps_inner_type most levels) (λ (t : IrType). keeps_then (keeps_expect (sign 44)) (λ (c : Unit). keeps_then (keeps_expect (word (codes "ptr"))) (λ (p : Unit).
-    keeps_then keeps_global (λ (x : SymId). keeps_then (keeps_many (sign 44) (GoodCount n) (keeps_behind_comma (keeps_index most levels)) [] (λ g. tt)) (λ (is : List TypedCount). keeps_then (keeps_expect (sign 41)) (λ (d : Unit).
+    keeps_then keeps_global (λ (x : SymId). keeps_then (keeps_many (sign 44) (GoodCount n) (keeps_after_comma (keeps_index most levels)) [] (λ g. tt)) (λ (is : List TypedCount). keeps_then (keeps_expect (sign 41)) (λ (d : Unit).
     keeps_ret (consts.Gep t x is) (λ g. good_gep n t x is g.1.1.1.1.1.0 g.1.1.0 g.1.0))))))))
 
 pub keeps_gep : {b : Bool} {n : Names} {H : Type 0} (most : Option ℕ) (levels : ℕ) → Keeps b n H (gep most levels) (GoodValue n)

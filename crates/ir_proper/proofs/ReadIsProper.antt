@@ -3,6 +3,7 @@ use Rattle.std.proofs.Common.{◌≡◌, ◌≢◌, ℕ, ◌≤◌, ◌<◌, Boo
 use Rattle.std.specs.List.{flat_map, AllByRecursion as Each}
 use Rattle.std.proofs.lemmas.List.{length-map}
 use Rattle.std.proofs.lemmas.List.Elements.{All-from_recursion}
+use Rattle.ir_core.specs.declared.limits.TheConstants.{MOST_FUNCTIONS, MOST_SITES}
 use Rattle.ir_core.specs.declared.ty.TypeName.{TypeName}
 use Rattle.ir_core.specs.declared.ty.TypeDef.{TypeDef}
 use Rattle.ir_core.specs.declared.ty.IrType.{IrType}
@@ -106,7 +107,7 @@ module _ (n : Names) (d : Draft) (s : Names) (h : GoodDraft n d) where
       (each_map (KnownType n) (λ (x : TypeDef). x.name) made.types.defs (each_more (GoodTypeDef n) (λ (x : TypeDef). KnownType n x.name) (λ x k. k.name) made.types.defs h.types))
       (each_flat (KnownType n) names_in_type (module_types made) types_good)
 
-  proper_made : Fine n → s.symbols ≡ n.symbols → s.types ≡ n.types → length (sites made) ≤ 4096 → IsProper made
+  proper_made : Fine n → s.symbols ≡ n.symbols → s.types ≡ n.types → length (sites made) ≤ MOST_SITES → IsProper made
   proper_made w e f few = record {
     each_func = All-from_recursion IsProperFunc made.funcs (each_more (GoodFunc n) IsProperFunc (λ f k. k.proper) made.funcs funcs_good);
     symbols_known = rw e (All-from_recursion (λ (x : SymId). x.0 < length n.symbols) (module_symbols made) symbols_good);
@@ -123,18 +124,18 @@ module _ (n : Names) (d : Draft) (s : Names) (h : GoodDraft n d) where
 no_names_fine : Fine no_names
 no_names_fine = record { symbols = tt; types = tt; locals = tt; clean = tt }
 
-proper_text : (ts : List Piece) (m : modules.Module) (t : Names) → Clean ts → (text_form stated).reads no_names ts m t → length (sites m) ≤ 4096 → IsProper m
+proper_text : (ts : List Piece) (m : modules.Module) (t : Names) → Clean ts → (text_form stated).reads no_names ts m t → length (sites m) ≤ MOST_SITES → IsProper m
 proper_text ts m t c r few =
     let x = (keeps_text_form {n = t} {H = Unit {0}}).holds tt no_names ts m t c no_names_fine r (grows_same false t) in
     let g = x.0 in
     let names = text_names.so no_names ts m t r in
     let symbols = sym (ap (λ (y : modules.Module). y.symbols) g.3) ∙ names.0 in
     let types = sym (ap (λ (y : modules.Module). y.types.names) g.3) ∙ names.1 in
-    let count = subst (λ (y : modules.Module). length (sites y) ≤ 4096) g.3 few in
+    let count = subst (λ (y : modules.Module). length (sites y) ≤ MOST_SITES) g.3 few in
     subst IsProper (sym g.3) (proper_made t g.0 g.1 g.2 x.1 symbols types count)
 
 -- a text within the limits defines no more functions
-pub few_functions : (bytes : List ℕ) (m : modules.Module) → ReadsWithinLimits bytes m → length m.funcs ≤ 4096
+pub few_functions : (bytes : List ℕ) (m : modules.Module) → ReadsWithinLimits bytes m → length m.funcs ≤ MOST_FUNCTIONS
 few_functions bytes m h =
     let g = ((keeps_text_form {n = h.0} {H = Unit {0}}).holds tt no_names (pieces bytes) m h.0 (clean_pieces bytes) no_names_fine h.1 (grows_same false h.0)).0 in
     let less = g.2.few in
@@ -142,12 +143,12 @@ few_functions bytes m h =
     let funcs = ap (λ (y : modules.Module). length y.funcs) g.3 in
     omega (arith, less, same, funcs)
 
-pub read_is_proper : (bytes : List ℕ) (m : modules.Module) → ReadsWithinLimits bytes m → length (sites m) ≤ 4096 → IsProper m
+pub read_is_proper : (bytes : List ℕ) (m : modules.Module) → ReadsWithinLimits bytes m → length (sites m) ≤ MOST_SITES → IsProper m
 read_is_proper bytes m h few = proper_text (pieces bytes) m h.0 (clean_pieces bytes) h.1 few
 
-pub read_with_few_sites : (bytes : List ℕ) (m : modules.Module) → ReadsWithinLimits bytes m → length (all_sites m.funcs) ≤ 4096 → IsProper m
+pub read_with_few_sites : (bytes : List ℕ) (m : modules.Module) → ReadsWithinLimits bytes m → length (all_sites m.funcs) ≤ MOST_SITES → IsProper m
 read_with_few_sites bytes m h few = let e = no_more_sites m in read_is_proper bytes m h (omega (arith, e, few))
 
-pub answer_is_proper : (E : Type 0) (bytes : List ℕ) (r : Result modules.Module E) → IfOk r (λ (m : modules.Module). ReadsWithinLimits bytes m × (length (all_sites m.funcs) ≤ 4096)) → IfOk r IsProper
+pub answer_is_proper : (E : Type 0) (bytes : List ℕ) (r : Result modules.Module E) → IfOk r (λ (m : modules.Module). ReadsWithinLimits bytes m × (length (all_sites m.funcs) ≤ MOST_SITES)) → IfOk r IsProper
 answer_is_proper E bytes (Ok m) h = read_with_few_sites bytes m h.0 h.1
 answer_is_proper E bytes (Err e) h = h

@@ -1,5 +1,5 @@
--- A token in one of two sets, and a definition's word.
-use Rattle.std.proofs.Common.{◌≡◌, ℕ, Bool, true, false, ◌||◌, List, [], ◌∷◌, ◌++◌, Err, refl, sym, subst}
+-- The first tokens of an entity, and a definition's word.
+use Rattle.std.proofs.Common.{◌≡◌, ℕ, Bool, true, false, ◌||◌, List, [], ◌∷◌, ◌++◌, Err, refl, subst}
 use Rattle.std.specs.Prelude.{codes}
 use Rattle.std.specs.Str.{bytes_eq}
 use Rattle.ir_lexer.specs.declared.table.Token.{Token}
@@ -7,30 +7,17 @@ use Rattle.ir_lexer.specs.declared.table.Token.TheVariants as tokens
 use Rattle.ir_grammar.specs.declared.kinds.Kind.TheVariants as kinds
 use Rattle.ir_grammar.specs.Pieces.{Piece, Is, Bad}
 use Rattle.ir_grammar.specs.Names.{Names}
-use Rattle.ir_grammar.specs.Sets.{Set, has, head_in}
+use Rattle.ir_grammar.specs.Sets.{has, head_in}
 use Rattle.ir_grammar.specs.Forms.{Refused, Refuses, parse_token}
-use Rattle.ir_grammar.specs.Tokens.{kind, words_of, stated}
-use Rattle.ir_grammar.specs.Values.{gep_word}
-use Rattle.ir_grammar.specs.Operations.{bin_words, icmp_word, select_word, cast_words, alloca_word, load_word, phi_word, other_words}
-use Rattle.ir_grammar.specs.Bodies.{plain_value_set, other_block_set}
+use Rattle.ir_grammar.specs.Tokens.{kind, stated}
 use Rattle.ir_grammar.specs.Entities.{source_word, target_word, attributes_word, define_word, define_of, declare_word, other_entity_set}
-use Rattle.ir_grammar.proofs.Apart.{in_append}
+use Rattle.ir_bodies.proofs.Heads.{in_either}
 use Rattle.ir_phrases.specs.declared.fault.ReadFault.{ReadFault}
 use Rattle.ir_phrases.specs.Gives.{refused, Fails}
 use Rattle.ir_phrases.proofs.GroupsRead.{fails_refused}
 
-in_either : (x y : Set) (ts : List Piece) (a b : Bool) → a ≡ head_in x ts → b ≡ head_in y ts → (a || b) ≡ head_in (x ++ y) ts
-in_either x y [] a b e f = rw (e, f) refl
-in_either x y (t ∷ ts) a b e f = rw (e, f) (sym (in_append x y t))
-
 pub entity_heads : (ts : List Piece) (a b : Bool) → a ≡ head_in (source_word ++ target_word ++ attributes_word) ts → b ≡ head_in (kind kinds.Local ++ kind kinds.Global ++ define_word ++ declare_word) ts → (a || b) ≡ head_in other_entity_set ts
 entity_heads ts a b e f = in_either (source_word ++ target_word ++ attributes_word) (kind kinds.Local ++ kind kinds.Global ++ define_word ++ declare_word) ts a b e f
-
-pub op_heads : (ts : List Piece) (a b : Bool) → a ≡ head_in (words_of bin_words ++ icmp_word ++ select_word) ts → b ≡ head_in (words_of cast_words ++ alloca_word ++ load_word ++ phi_word) ts → (a || b) ≡ head_in other_words ts
-op_heads ts a b e f = in_either (words_of bin_words ++ icmp_word ++ select_word) (words_of cast_words ++ alloca_word ++ load_word ++ phi_word) ts a b e f
-
-pub void_heads : (ts : List Piece) (a b : Bool) → a ≡ head_in (kind kinds.Local ++ gep_word ++ plain_value_set) ts → b ≡ head_in other_block_set ts → (a || b) ≡ head_in (kind kinds.Local ++ gep_word ++ plain_value_set ++ other_block_set) ts
-void_heads ts a b e f = in_either (kind kinds.Local ++ gep_word ++ plain_value_set) other_block_set ts a b e f
 
 -- another token than the word `define` is refused there
 no_define : (n : ℕ) (t : Token) → has define_word t ≡ false → define_of stated n t ≡ Refuses

@@ -6,6 +6,7 @@ use Rattle.std.proofs.lemmas.Option.{slice_get_cases, slice_get_within}
 use Rattle.oi_base.specs.declared.ids.Place.{Place}
 use Rattle.ir_lexer.specs.declared.table.Spot.{Spot}
 use Rattle.ir_core.specs.declared.func.Func.{Func}
+use Rattle.ir_core.specs.declared.limits.TheConstants.{MOST_SITES}
 use Rattle.ir_core.specs.declared.module.Module as modules
 use Rattle.call_graph.specs.declared.sites.Site.{Site}
 use Rattle.call_graph.specs.Sites.{all_sites}
@@ -79,7 +80,7 @@ within_is_read bytes m e h k = let r = read_exactly bytes m h.0 in fails_no_more
 -- ---- the limit on call sites
 
 -- what is found of the sites of a list of functions is told of an equal one
-pub told_of : (funcs listed : List Func) (o r : Option Place) → listed ≡ funcs → o ≡ option_map (λ (s : Site). s.place) (slice_get (all_sites listed) 4096) → o ≡ r → option_map (λ (s : Site). s.place) (slice_get (all_sites funcs) 4096) ≡ r
+pub told_of : (funcs listed : List Func) (o r : Option Place) → listed ≡ funcs → o ≡ option_map (λ (s : Site). s.place) (slice_get (all_sites listed) MOST_SITES) → o ≡ r → option_map (λ (s : Site). s.place) (slice_get (all_sites funcs) MOST_SITES) ≡ r
 told_of funcs listed o r same e f = rw (← same) (sym e ∙ f)
 
 pub place_there : (sites : List Site) (n : ℕ) (p : Place) → option_map (λ (s : Site). s.place) (slice_get sites n) ≡ Some p → (s : Site) × (slice_get sites n ≡ Some s) × (s.place ≡ p)
@@ -89,15 +90,15 @@ place_there sites n p e = there (slice_get sites n) refl
     there None h = absurd (cc (h, e))
     there (Some s) h = (s, h, cc (h, e))
 
-pub beyond_refused : (bytes : List ℕ) (m : modules.Module) (l : Left) (p : Place) → read bytes ≡ Ok (m, l) → option_map (λ (s : Site). s.place) (slice_get (all_sites m.funcs) 4096) ≡ Some p → IsRefusal bytes (faults.Limit p limits.Sites)
-beyond_refused bytes m l p e h = let s = place_there (all_sites m.funcs) 4096 p h in inr (refl, (m, read_to_end bytes m l e, s.0, s.1, s.2))
+pub beyond_refused : (bytes : List ℕ) (m : modules.Module) (l : Left) (p : Place) → read bytes ≡ Ok (m, l) → option_map (λ (s : Site). s.place) (slice_get (all_sites m.funcs) MOST_SITES) ≡ Some p → IsRefusal bytes (faults.Limit p limits.Sites)
+beyond_refused bytes m l p e h = let s = place_there (all_sites m.funcs) MOST_SITES p h in inr (refl, (m, read_to_end bytes m l e, s.0, s.1, s.2))
 
-pub beyond_is_not_within : (bytes : List ℕ) (m n : modules.Module) (l : Left) (p : Place) → read bytes ≡ Ok (m, l) → option_map (λ (s : Site). s.place) (slice_get (all_sites m.funcs) 4096) ≡ Some p → ReadsWithin bytes n → ⊥
+pub beyond_is_not_within : (bytes : List ℕ) (m n : modules.Module) (l : Left) (p : Place) → read bytes ≡ Ok (m, l) → option_map (λ (s : Site). s.place) (slice_get (all_sites m.funcs) MOST_SITES) ≡ Some p → ReadsWithin bytes n → ⊥
 beyond_is_not_within bytes m n l p e h k =
-    let s = place_there (all_sites m.funcs) 4096 p h in
-    let lt = slice_get_within (all_sites m.funcs) 4096 s.0 s.1 in
+    let s = place_there (all_sites m.funcs) MOST_SITES p h in
+    let lt = slice_get_within (all_sites m.funcs) MOST_SITES s.0 s.1 in
     let same = one_module_within bytes n m k.0 (read_to_end bytes m l e) in
-    let le : length (all_sites m.funcs) ≤ 4096 = subst (λ (x : modules.Module). length (all_sites x.funcs) ≤ 4096) same k.1 in
+    let le : length (all_sites m.funcs) ≤ MOST_SITES = subst (λ (x : modules.Module). length (all_sites x.funcs) ≤ MOST_SITES) same k.1 in
     absurd (omega arith)
 
 pub none_beyond : (sites : List Site) (n : ℕ) → option_map (λ (s : Site). s.place) (slice_get sites n) ≡ None → length sites ≤ n
@@ -106,5 +107,5 @@ none_beyond sites n e = elim (slice_get_cases sites n).1 [
   | inr h ↦ h.0
 ]
 
-pub within : (bytes : List ℕ) (m : modules.Module) (l : Left) → read bytes ≡ Ok (m, l) → option_map (λ (s : Site). s.place) (slice_get (all_sites m.funcs) 4096) ≡ None → ReadsWithin bytes m
-within bytes m l e h = (read_to_end bytes m l e, none_beyond (all_sites m.funcs) 4096 h)
+pub within : (bytes : List ℕ) (m : modules.Module) (l : Left) → read bytes ≡ Ok (m, l) → option_map (λ (s : Site). s.place) (slice_get (all_sites m.funcs) MOST_SITES) ≡ None → ReadsWithin bytes m
+within bytes m l e h = (read_to_end bytes m l e, none_beyond (all_sites m.funcs) MOST_SITES h)

@@ -3,6 +3,7 @@
 use Rattle.std.specs.Prelude.{◌≡◌, ◌⊎◌, ◌≤◌, ℕ, Bool, true, false, List, length, Some, slice_get}
 use Rattle.oi_base.specs.declared.ids.Place.{Place}
 use Rattle.ir_lexer.specs.declared.table.Spot.{Spot}
+use Rattle.ir_core.specs.declared.limits.TheConstants.{MOST_SITES}
 use Rattle.ir_core.specs.declared.module.Module as modules
 use Rattle.call_graph.specs.declared.sites.Site.{Site}
 use Rattle.call_graph.specs.Sites.{all_sites}
@@ -16,7 +17,7 @@ use Rattle.ir_phrases.specs.declared.fault.ReadFault.TheVariants as faults
 
 -- the text of a module within all limits
 abbrev pub ReadsWithin : List ℕ → modules.Module → Type 0
-ReadsWithin bytes m = ReadsWithinLimits bytes m × (length (all_sites m.funcs) ≤ 4096)
+ReadsWithin bytes m = ReadsWithinLimits bytes m × (length (all_sites m.funcs) ≤ MOST_SITES)
 
 -- the text exceeds none of the limits but that on call sites
 abbrev pub ExceedsNone : List ℕ → Type 0
@@ -28,7 +29,7 @@ RefusesToken bytes p named = (u rest : List Piece) × (t : Spot) × FirstRefused
 
 -- the call site at this place is the first beyond the limit
 abbrev pub ExceedsSites : List ℕ → Place → Type 0
-ExceedsSites bytes p = (m : modules.Module) × ReadsWithinLimits bytes m × (s : Site) × (slice_get (all_sites m.funcs) 4096 ≡ Some s) × (s.place ≡ p)
+ExceedsSites bytes p = (m : modules.Module) × ReadsWithinLimits bytes m × (s : Site) × (slice_get (all_sites m.funcs) MOST_SITES ≡ Some s) × (s.place ≡ p)
 
 -- the token at this place exceeds this limit; no token exceeds that on call sites, which is tested last
 abbrev pub ExceedsLimit : List ℕ → Which → Place → Type 0

@@ -210,7 +210,7 @@ fn is_constant(reader: &mut Reader<'_>) -> Result<bool, ReadFault>
     Ok(found)
 }
 
-/// `align` INT, or a note behind this `align`.
+/// `align` INT, or a note after this `align`.
 fn align_or_note(reader: &mut Reader<'_>, align: Option<u32>) -> Result<Option<u32>, ReadFault>
     ensures { Gives result reader.new ((align_or_note stated align).parse reader.old) }
 {

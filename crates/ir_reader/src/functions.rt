@@ -4,17 +4,13 @@ ghost use Rattle.ir_grammar.specs.Tokens.{expect, skip, stated};
 ghost use Rattle.ir_grammar.specs.Entities.{define_of, without_groups, definition, before_name, declaration};
 ghost use Rattle.ir_phrases.specs.Gives.{Gives};
 
-use crate::blocks::body;
-use crate::bracketing::params;
-use ir_core::{Declaration, Func, Texts};
+use ir_bodies::{body, params};
+use ir_core::{Declaration, Func, MOST_FUNCTIONS, Texts};
 use ir_grammar::{Barred, Definition, Entity, Marks, Which};
 use ir_phrases::{ReadFault, Reader};
 use std::alloc::Global;
 
-/// The most definitions of a text.
-const MOST_FUNCTIONS: usize = 4096;
-
-/// `define`, behind so many definitions.
+/// `define`, after so many definitions.
 fn define_word(reader: &mut Reader<'_>, so_many: usize) -> Result<(), ReadFault>
     ensures { Gives result reader.new ((token (define_of stated so_many)).parse reader.old) }
 {
@@ -76,7 +72,7 @@ fn before_name(reader: &mut Reader<'_>) -> Result<(), ReadFault>
     Ok(())
 }
 
-/// `declare` { any token but GLOBAL } GLOBAL GROUP, but for the attributes and notes behind it.
+/// `declare` { any token but GLOBAL } GLOBAL GROUP, but for the attributes and notes after it.
 #[tactic(auto, unfolding(ir_grammar::specs::Entities::declaration))]
 pub fn declaration(reader: &mut Reader<'_>) -> Result<Entity, ReadFault>
     ensures { Gives result reader.new (declaration.parse reader.old) }

@@ -2,21 +2,21 @@ ghost use Rattle.std.specs.Prelude.{◌≡◌, ◌++◌, IfOk};
 ghost use Rattle.ir_grammar.specs.Sets.{head_in};
 ghost use Rattle.ir_grammar.specs.declared.kinds.Kind.TheVariants as kinds;
 ghost use Rattle.ir_grammar.specs.Tokens.{stated, kind as kind_set, sign as sign_set};
-ghost use Rattle.ir_grammar.specs.Entities.{other_entity, entity, no_entities, added, function_of, module_of, note_or_metadata, rest_of_note_or_metadata, with_other_entity, with_entity, behind_declaration, next_entity, source_word, target_word, attributes_word, define_word, declare_word, other_entity_set, entity_set, next_set, text_end, text_form};
+ghost use Rattle.ir_grammar.specs.Entities.{other_entity, entity, no_entities, added, function_of, module_of, note_or_metadata, rest_of_note_or_metadata, with_other_entity, with_entity, after_declaration, next_entity, source_word, target_word, attributes_word, define_word, declare_word, other_entity_set, entity_set, next_set, text_end, text_form};
 ghost use Rattle.ir_phrases.specs.Gives.{Gives};
 
 use crate::entities::{
     attributes, global_var, metadata, metadata_rest, source_filename, target, type_def,
 };
 use crate::functions::{declaration, definition};
-use crate::settling::functions_of;
+use crate::noinline::functions_of;
 use ir_core::{Declared, Globals, Module, NamedTypes, Texts, TypeDefs};
 use ir_grammar::{Barred, Definitions, Draft, Entity, Kind};
 use ir_phrases::{ReadFault, Reader};
 use oi_base::{Items, NoMemory};
 use std::alloc::Global;
 
-/// An entity that begins with no META, behind so many definitions.
+/// An entity that begins with no META, after so many definitions.
 #[tactic(auto, unfolding(ir_grammar::specs::Entities::other_entity))]
 fn other_entity(reader: &mut Reader<'_>, so_many: usize) -> Result<Entity, ReadFault>
     ensures { Gives result reader.new ((other_entity stated so_many).parse reader.old) }
@@ -89,7 +89,7 @@ fn added(draft: Draft, entity: Entity) -> Result<Draft, NoMemory>
     Ok(draft)
 }
 
-/// Behind a declaration a META begins a note of it, or with `=` a metadata entity.
+/// After a declaration a META begins a note of it, or with `=` a metadata entity.
 #[tactic(auto, unfolding(ir_grammar::specs::Entities::note_or_metadata))]
 fn note_or_metadata(reader: &mut Reader<'_>, draft: Draft) -> Result<Draft, ReadFault>
     ensures { Gives result reader.new ((note_or_metadata draft).parse reader.old) }
@@ -130,10 +130,10 @@ fn with_entity(reader: &mut Reader<'_>, draft: Draft) -> Result<Draft, ReadFault
     Ok(added(draft, next)?)
 }
 
-/// Behind a declaration: an attribute or a note of it, or the next entity.
-#[tactic(auto, unfolding(ir_grammar::specs::Entities::behind_declaration))]
-fn behind_declaration(reader: &mut Reader<'_>, draft: Draft) -> Result<Draft, ReadFault>
-    ensures { Gives result reader.new ((behind_declaration stated draft).parse reader.old) }
+/// After a declaration: an attribute or a note of it, or the next entity.
+#[tactic(auto, unfolding(ir_grammar::specs::Entities::after_declaration))]
+fn after_declaration(reader: &mut Reader<'_>, draft: Draft) -> Result<Draft, ReadFault>
+    ensures { Gives result reader.new ((after_declaration stated draft).parse reader.old) }
 {
     if reader.is_kind(Kind::Meta) {
         return note_or_metadata(reader, draft);
@@ -149,7 +149,7 @@ fn next_entity(reader: &mut Reader<'_>, draft: Draft) -> Result<Draft, ReadFault
     ensures { Gives result reader.new ((next_entity stated draft draft.declares).parse reader.old) }
 {
     if draft.declares {
-        return behind_declaration(reader, draft);
+        return after_declaration(reader, draft);
     }
     with_entity(reader, draft)
 }
@@ -185,7 +185,7 @@ fn is_entity(reader: &Reader<'_>) -> bool
     reader.is_kind(Kind::Meta) || is_other_entity(reader)
 }
 
-/// Does an entity stand next or, behind a declaration, a part of it?
+/// Does an entity stand next or, after a declaration, a part of it?
 fn goes_on(reader: &Reader<'_>, declares: bool) -> bool
     ensures { result ≡ head_in (next_set declares) reader.now.tokens }
 {

@@ -1,6 +1,7 @@
 ghost use Rattle.std.specs.Prelude.{◌≡◌, ◌<◌, length, Err, IfOk, IfErr};
 ghost use Rattle.std.specs.Option.{option_map};
 ghost use Rattle.std.specs.Prelude.{slice_get};
+ghost use Rattle.ir_core.specs.declared.limits.TheConstants.{MOST_SITES};
 ghost use Rattle.ir_core.specs.declared.module.Module as modules;
 ghost use Rattle.call_graph.specs.declared.sites.Site.{Site};
 ghost use Rattle.call_graph.specs.Sites.{all_sites};
@@ -11,18 +12,15 @@ ghost use Rattle.ir_reader.specs.Refusals.{ReadsWithin, IsRefusal};
 
 use crate::module::text_form;
 use call_graph::{Functions, sites_of};
-use ir_core::{Func, Module};
+use ir_core::{Func, MOST_SITES, Module};
 use ir_grammar::Which;
 use ir_phrases::{ReadFault, Reader};
 use oi_base::{NoMemory, Place};
 use std::alloc::Global;
 
-/// The most call sites of a module.
-const MOST_SITES: usize = 4096;
-
 /// The place of the first call site beyond the limit.
 fn site_beyond(alloc: Global, funcs: &[Func]) -> Result<Option<Place>, NoMemory>
-    ensures { IfOk result (λ o. o ≡ option_map (λ (s : Site). s.place) (slice_get (all_sites funcs.now) 4096)) }
+    ensures { IfOk result (λ o. o ≡ option_map (λ (s : Site). s.place) (slice_get (all_sites funcs.now) MOST_SITES)) }
 {
     let functions = Functions::of(alloc, funcs)?;
     let sites = sites_of(alloc, &functions)?;

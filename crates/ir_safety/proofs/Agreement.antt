@@ -29,8 +29,8 @@ use Rattle.ir_core.specs.declared.func.Instr.{Instr}
 use Rattle.ir_core.specs.declared.func.Block.{Block}
 use Rattle.ir_core.specs.declared.func.Func.{Func}
 use Rattle.ir_core.specs.Parts.{instrs, types_of, is_defined}
-use Rattle.ir_core.specs.Stands.{Step, Does, Ends, steps, op_operands, end_operands, operands_of, symbol_text}
-use Rattle.ir_core.specs.Stands.{typed as with_type}
+use Rattle.ir_core.specs.Operands.{Step, Does, Ends, steps, op_operands, end_operands, operands_of, symbol_text}
+use Rattle.ir_core.specs.Operands.{typed as with_type}
 use Rattle.ir_core.specs.Constants.{width_of, scalar_of, element_of, into, inside, walk, path}
 use Rattle.ir_core.specs.Formed.{HasType, is_cast, AllTyped, Receives, ReturnsType, IsBlock}
 use Rattle.ir_core.specs.Instructions.{register, typed, index, first, func_number, external_call, call, instruction, entry, phi, terminator}

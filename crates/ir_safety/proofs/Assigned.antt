@@ -54,9 +54,9 @@ module _ {A B : Type 0} (f : A → Option B) where
   earlier_past x xs place n none h zero z w lt found makes = let same : x ≡ z = cc in absurd cc
   earlier_past x xs place n none h (suc j) z w lt found makes = h j z w (omega (arith, lt)) found makes
 
-  earlier_behind : (x : A) (v : B) (xs : List A) (place n : ℕ) → f x ≡ Some v → Earlier f xs (filter_map f xs) place n → Earlier f (x ∷ xs) (v ∷ filter_map f xs) (suc place) (suc n)
-  earlier_behind x v xs place n e h zero z w lt found makes = let same : x ≡ z = cc in (0, omega arith, cc)
-  earlier_behind x v xs place n e h (suc j) z w lt found makes = let r = h j z w (omega (arith, lt)) found makes in let less = r.1 in (suc r.0, omega (arith, less), r.2)
+  earlier_after : (x : A) (v : B) (xs : List A) (place n : ℕ) → f x ≡ Some v → Earlier f xs (filter_map f xs) place n → Earlier f (x ∷ xs) (v ∷ filter_map f xs) (suc place) (suc n)
+  earlier_after x v xs place n e h zero z w lt found makes = let same : x ≡ z = cc in (0, omega arith, cc)
+  earlier_after x v xs place n e h (suc j) z w lt found makes = let r = h j z w (omega (arith, lt)) found makes in let less = r.1 in (suc r.0, omega (arith, less), r.2)
 
   source_at : (xs : List A) (n : ℕ) (y : B) → slice_get (filter_map f xs) n ≡ Some y → Origin f xs (filter_map f xs) n y
   source_at [] n y e = absurd cc
@@ -65,7 +65,7 @@ module _ {A B : Type 0} (f : A → Option B) where
       by_first : (o : Option B) (n : ℕ) → f x ≡ o → slice_get (cons_option o (filter_map f xs)) n ≡ Some y → ((k : ℕ) → slice_get (filter_map f xs) k ≡ Some y → Origin f xs (filter_map f xs) k y) → Origin f (x ∷ xs) (cons_option o (filter_map f xs)) n y
       by_first None n o g rest = let r = rest n g in record { place = suc r.place; element = r.element; found = r.found; makes = r.makes; earlier = earlier_past x xs r.place n o r.earlier }
       by_first (Some v) zero o g rest = record { place = 0; element = x; found = refl; makes = o ∙ g; earlier = λ j z w lt found makes. absurd (omega (arith, lt)) }
-      by_first (Some v) (suc n) o g rest = let r = rest n g in record { place = suc r.place; element = r.element; found = r.found; makes = r.makes; earlier = earlier_behind x v xs r.place n o r.earlier }
+      by_first (Some v) (suc n) o g rest = let r = rest n g in record { place = suc r.place; element = r.element; found = r.found; makes = r.makes; earlier = earlier_after x v xs r.place n o r.earlier }
 
   -- at the end all that is made stands before
   all_earlier : {C : Type 0} (h : B → C) (xs : List A) → Earlier f xs (filter_map f xs) (length xs) (length (map h (filter_map f xs)))

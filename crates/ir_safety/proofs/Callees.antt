@@ -26,7 +26,7 @@ use Rattle.ir_core.specs.declared.func.Instr.{Instr}
 use Rattle.ir_core.specs.declared.func.Func.{Func}
 use Rattle.ir_core.specs.declared.func.Param.{Param}
 use Rattle.ir_core.specs.Parts.{instrs, is_defined, types_of}
-use Rattle.ir_core.specs.Stands.{start, symbol_text}
+use Rattle.ir_core.specs.Operands.{start, symbol_text}
 use Rattle.ir_core.specs.Constants.{scalar_of}
 use Rattle.ir_core.specs.Instructions.{typed, register, func_number, external_call, call, instruction}
 use Rattle.ir_core.specs.Source.{is_main, main_number}

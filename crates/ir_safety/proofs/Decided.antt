@@ -136,7 +136,7 @@ module _ {A : Type 0} (P : A → Type 0) (test : (x : A) → Decided (P x)) (xs 
     where
       by_place : (j : ℕ) (x : A) → j < suc n → slice_get xs j ≡ Some x → P x → (j < n) ⊎ (n ≤ j) → At n ⊎ Before n
       by_place j x lt e p (inl before) = inr (j, x, before, e, p)
-      by_place j x lt e p (inr behind) = let last : n ≡ j = omega (arith, lt, behind) in inl (x, ap (slice_get xs) last ∙ e, p)
+      by_place j x lt e p (inr after) = let last : n ≡ j = omega (arith, lt, after) in inl (x, ap (slice_get xs) last ∙ e, p)
 
   pub one_before : (n : ℕ) → Decided (Before n)
   one_before zero = inr (λ h. let lt = h.2 in absurd (omega (arith, lt)))

@@ -18,7 +18,7 @@ use Rattle.ir_core.specs.declared.flat.FlatEnd.{FlatEnd}
 use Rattle.ir_core.specs.declared.flat.FlatEnd.TheVariants.{Ret, Br, Cond, Switch, Unreachable}
 use Rattle.ir_core.specs.declared.flat.FlatBlock.{FlatBlock}
 use Rattle.ir_core.specs.declared.flat.FlatBody.{FlatBody}
-use Rattle.ir_core.specs.Memory.{Value, Bits, At, Nowhere, Poisoned, Memory, load, store}
+use Rattle.ir_core.specs.Memory.{Value, Bits, At, NullPointer, Poisoned, Memory, load, store}
 use Rattle.ir_core.specs.Rows.{Answer, Gives, NoGood, Mistyped, Read, Is, IsPoison, IsOther, as_word, bin, icmp, choose, cast_read, moved}
 use Rattle.ir_core.specs.Flat.{Program, Regs, Effect, Sets, Allocates, Stores, Puts, Takes, Enters, Goes, Returns, Stops, NoMeaning, NoValue, value_of, using, operand, word_in, answered, load_gives, store_gives, Distance, Far, PoisonFar, NoDistance, further, read_option, distance, gep_gives, arguments, effect, case_for, end_effect}
 use Rattle.ir_core.specs.Formed.{FuncType, HasType, Receives, AllTyped, ReturnsType, IsBlock, of_result, written_by, used_by, used_at_end, targets}
@@ -75,7 +75,7 @@ module _ (p : Program) (types : ℕ → Scalar) (funcs : ℕ → FuncType) where
   value_there regs (Reg r) s h t = (h.0, h.1, subst (λ (k : Scalar). IsOf k h.0) t h.2)
   value_there regs (Word a) (scalar.Word w) h t = (Bits a, refl, tested a (modulus w) t)
   value_there regs (Word a) scalar.Pointer h t = absurd t
-  value_there regs Null s h t = (Nowhere, refl, subst (λ (k : Scalar). IsOf k Nowhere) (sym t) refl)
+  value_there regs Null s h t = (NullPointer, refl, subst (λ (k : Scalar). IsOf k NullPointer) (sym t) refl)
   value_there regs (Address g k) s h t = (At g k, refl, subst (λ (j : Scalar). IsOf j (At g k)) (sym t.0) refl)
   value_there regs Poison s h t = (Poisoned, refl, poison_of s)
 

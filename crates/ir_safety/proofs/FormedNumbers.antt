@@ -65,14 +65,14 @@ module _ (m : Module) where
       let rows : Each (Has (result_names code)) (row_names code) = each_from (Has (result_names code)) (row_names code) (by_row code) in
       each_of (Has (result_names code)) (written_names code) x (each_joined (Has (result_names code)) (phi_names code) (row_names code) phis rows) h
 
-  behind : (r : Option LocalId) (xs : List LocalId) → Apart (map (λ (x : LocalId). x.0) (cons_option r xs)) → Apart (map (λ (x : LocalId). x.0) xs)
-  behind None xs a = a
-  behind (Some x) xs a = a.1
+  after : (r : Option LocalId) (xs : List LocalId) → Apart (map (λ (x : LocalId). x.0) (cons_option r xs)) → Apart (map (λ (x : LocalId). x.0) xs)
+  after None xs a = a
+  after (Some x) xs a = a.1
 
   -- and written once where no result is named twice
   code_once : (code : List Instr) → Apart (result_names code) → Apart (written_names code)
   code_once [] a = tt
-  code_once (i ∷ is) a = first (phi_row m i) refl (code_once is (behind i.result (filter_map (λ (j : Instr). j.result) is) a))
+  code_once (i ∷ is) a = first (phi_row m i) refl (code_once is (after i.result (filter_map (λ (j : Instr). j.result) is) a))
     where
       away : (x : ℕ) → i.result ≡ Some (record { 0 = x }) → Each (λ y. x ≢ y) (written_names is)
       away x e =
@@ -128,7 +128,7 @@ module _ (f : Func) where
   one_number : (x y : ℕ) → Has (registers f) (record { 0 = x }) → number x ≡ number y → x ≡ y
   one_number x y h same = one_key name (registers f) x y (place_within name (registers f) (record { 0 = x }) h) same
 
--- what no parameter is named has a number behind theirs
+-- what no parameter is named has a number after theirs
 past_params : (ps : List Param) (ys : List LocalId) (x : ℕ) → Each (λ (p : ℕ). p ≢ x) (map (λ (q : Param). q.name.0) ps) → length ps ≤ place name (map (λ (q : Param). q.name) ps ++ ys) x
 past_params [] ys x e = omega arith
 past_params (p ∷ ps) ys x e = by_test (p.name.0 == x) refl (past_params ps ys x e.1)
@@ -190,8 +190,8 @@ module _ (m : Module) (proper : IsProper m) (valid : IsValid m) (g : ℕ) (f : F
       is_in : (r : ℕ) → Has (map (numbers f).reg (all_named m f)) r → IsIn r
       is_in r h =
           let x = map_source (numbers f).reg (all_named m f) r h in
-          let behind : length f.params ≤ (numbers f).reg x.0 = past_params f.params (flat_map results f.blocks) x.0 (no_param m f rules x.0 (own_name m f x.0 x.1)) in
-          subst IsIn x.2 (behind, place_within name (registers f) (record { 0 = x.0 }) (is_register m f x.0 x.1))
+          let after : length f.params ≤ (numbers f).reg x.0 = past_params f.params (flat_map results f.blocks) x.0 (no_param m f rules x.0 (own_name m f x.0 x.1)) in
+          subst IsIn x.2 (after, place_within name (registers f) (record { 0 = x.0 }) (is_register m f x.0 x.1))
 
   -- ---- parameters, targets and the entry block
 

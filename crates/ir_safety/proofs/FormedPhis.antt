@@ -13,8 +13,8 @@ use Rattle.ir_core.specs.declared.op.Pair.{Pair}
 use Rattle.ir_core.specs.declared.func.Block.{Block}
 use Rattle.ir_core.specs.declared.func.Func.{Func}
 use Rattle.ir_core.specs.Parts.{targets}
-use Rattle.ir_core.specs.Stands.{Does, steps, op_operands}
-use Rattle.ir_core.specs.Stands.{typed as with_type}
+use Rattle.ir_core.specs.Operands.{Does, steps, op_operands}
+use Rattle.ir_core.specs.Operands.{typed as with_type}
 use Rattle.ir_core.specs.Formed.{IsBlock, IsEdge, IsPhi, writes, all_writes}
 use Rattle.ir_core.specs.Instructions.{operand}
 use Rattle.ir_core.specs.Plain.{other_operand, numbers, registers, plain_body}

@@ -36,7 +36,7 @@ use Rattle.ir_core.specs.declared.func.Instr.{Instr}
 use Rattle.ir_core.specs.declared.func.Block.{Block}
 use Rattle.ir_core.specs.declared.func.Func.{Func}
 use Rattle.ir_core.specs.Parts.{instrs, op_values}
-use Rattle.ir_core.specs.Stands.{Does, Ends, steps, op_operands}
+use Rattle.ir_core.specs.Operands.{Does, Ends, steps, op_operands}
 use Rattle.ir_core.specs.Memory.{scalar_size}
 use Rattle.ir_core.specs.Words.{bit}
 use Rattle.ir_core.specs.Constants.{width_of, field_number, constant, path}

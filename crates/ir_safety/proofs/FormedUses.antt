@@ -25,8 +25,8 @@ use Rattle.ir_core.specs.declared.op.TypedOperand.{TypedOperand}
 use Rattle.ir_core.specs.declared.func.Block.{Block}
 use Rattle.ir_core.specs.declared.func.Func.{Func}
 use Rattle.ir_core.specs.Parts.{instrs}
-use Rattle.ir_core.specs.Stands.{Step, Does, Ends, steps, place_of, operands_of}
-use Rattle.ir_core.specs.Stands.{typed as with_type}
+use Rattle.ir_core.specs.Operands.{Step, Does, Ends, steps, place_of, operands_of}
+use Rattle.ir_core.specs.Operands.{typed as with_type}
 use Rattle.ir_core.specs.Constants.{zero_of, scalar_of, constant, global_number, global_block, global_memory}
 use Rattle.ir_core.specs.Formed.{used_by, used_at_end, uses, all_uses, all_writes, IsParamOrWritten, NamesGlobal}
 use Rattle.ir_core.specs.Instructions.{operand, typed, terminator}

@@ -12,7 +12,7 @@ use Rattle.ir_core.specs.declared.func.Instr.{Instr}
 use Rattle.ir_core.specs.declared.func.Block.{Block}
 use Rattle.ir_core.specs.declared.func.Func.{Func}
 use Rattle.ir_core.specs.Parts.{targets, instrs}
-use Rattle.ir_core.specs.Stands.{Ends, steps}
+use Rattle.ir_core.specs.Operands.{Ends, steps}
 use Rattle.ir_core.specs.Formed.{IsBlock, IsEdge}
 use Rattle.ir_core.specs.Instructions.{entry}
 use Rattle.ir_core.specs.Plain.{other_entry, numbers, plain_body}

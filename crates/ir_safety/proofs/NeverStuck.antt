@@ -110,7 +110,7 @@ module _ (p : Program) (types : ℕ → ℕ → Scalar) (funcs : ℕ → FuncTyp
 
     -- ---- values that are there
 
-    -- what is written before an instruction of the block that is not behind the place
+    -- what is written before an instruction of the block that is not after the place
     written_before : (n q : ℕ) → n ≤ r.top.place → IsWritten s.block n q → IsWritten s.block r.top.place q
     written_before n q le (inl phi) = inl phi
     written_before n q le (inr h) = let lt = h.2 in inr (h.0, h.1, omega (arith, lt), h.3, h.4)

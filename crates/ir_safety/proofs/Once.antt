@@ -43,8 +43,8 @@ apart_parts f g once fewer (x ∷ xs) a =
     apart_joined (f x) (flat_map f xs) (once x (apart_left (g x) (flat_map g xs) a)) (apart_parts f g once fewer xs (apart_right (g x) (flat_map g xs) a))
     (λ y h. each_from (λ (z : ℕ). y ≢ z) (flat_map f xs) (λ z k.
     let part = in_part f xs z k in
-    let behind : Each (λ (w : ℕ). y ≢ w) (flat_map g xs) = each_of (λ (v : ℕ). Each (λ (w : ℕ). v ≢ w) (flat_map g xs)) (g x) y (apart_across (g x) (flat_map g xs) a) (fewer x y h) in
-    each_of (λ (w : ℕ). y ≢ w) (flat_map g xs) z behind (has_part g xs part.0 z part.1 (fewer part.0 z part.2))))
+    let after : Each (λ (w : ℕ). y ≢ w) (flat_map g xs) = each_of (λ (v : ℕ). Each (λ (w : ℕ). v ≢ w) (flat_map g xs)) (g x) y (apart_across (g x) (flat_map g xs) a) (fewer x y h) in
+    each_of (λ (w : ℕ). y ≢ w) (flat_map g xs) z after (has_part g xs part.0 z part.1 (fewer part.0 z part.2))))
 
 -- what a function makes of different numbers, where it makes different ones of them
 pub apart_made : (g : ℕ → ℕ) (xs : List ℕ) → Apart xs → ((x y : ℕ) → Has xs x → Has xs y → g x ≡ g y → x ≡ y) → Apart (map g xs)

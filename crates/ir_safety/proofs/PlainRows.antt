@@ -23,8 +23,8 @@ use Rattle.ir_core.specs.declared.op.End.{End}
 use Rattle.ir_core.specs.declared.op.End.TheVariants as ends
 use Rattle.ir_core.specs.declared.func.Instr.{Instr}
 use Rattle.ir_core.specs.Parts.{is_defined}
-use Rattle.ir_core.specs.Stands.{op_operands, end_operands, symbol_text}
-use Rattle.ir_core.specs.Stands.{typed as with_type}
+use Rattle.ir_core.specs.Operands.{op_operands, end_operands, symbol_text}
+use Rattle.ir_core.specs.Operands.{typed as with_type}
 use Rattle.ir_core.specs.Constants.{path, walk, joined, into, inside, element_of}
 use Rattle.ir_core.specs.Instructions.{register, typed, index, first, func_number, entry, instruction, phi, call, terminator}
 use Rattle.ir_core.specs.Formed.{of_result, written_by, used_by, used_at_end}

@@ -12,8 +12,8 @@ use Rattle.ir_core.specs.declared.func.Instr.{Instr}
 use Rattle.ir_core.specs.declared.func.Block.{Block}
 use Rattle.ir_core.specs.declared.func.Func.{Func}
 use Rattle.ir_core.specs.Parts.{instrs}
-use Rattle.ir_core.specs.Stands.{Step, Does, Ends, steps, block_steps, place_of, op_operands, operands_of}
-use Rattle.ir_core.specs.Stands.{typed as with_type}
+use Rattle.ir_core.specs.Operands.{Step, Does, Ends, steps, block_steps, place_of, op_operands, operands_of}
+use Rattle.ir_core.specs.Operands.{typed as with_type}
 use Rattle.ir_core.specs.Instructions.{entry, block_rows}
 use Rattle.ir_core.specs.Plain.{other_instr, other_entry, other_phi, numbers}
 use Rattle.ir_core.specs.Valid.{IsValidFunc}

@@ -73,7 +73,7 @@ of_block b = filter_map of_instr b.code
 abbrev all_registers : Func → List Register
 all_registers f = map of_param f.params ++ flat_map of_block f.blocks
 
--- what is told of each register, in the order of their numbers
+-- what is said of each register, in the order of their numbers
 told : {C : Type 0} (g : Register → C) (p : Param → C) (h : Instr → Option C) → ((q : Param) → g (of_param q) ≡ p q) → ((i : Instr) → option_map g (of_instr i) ≡ h i) → (f : Func)
     → map g (all_registers f) ≡ map p f.params ++ flat_map (λ (b : Block). filter_map h b.code) f.blocks
 told g p h same made f =

@@ -34,8 +34,8 @@ use Rattle.ir_core.specs.Parts.{instrs, is_defined, op_values, end_values, types
 use Rattle.ir_core.specs.declared.op.Pair.{Pair}
 use Rattle.ir_core.specs.declared.func.Instr.{Instr}
 use Rattle.ir_core.specs.declared.func.Func.{Func}
-use Rattle.ir_core.specs.Stands.{op_operands, end_operands, symbol_text}
-use Rattle.ir_core.specs.Stands.{typed as with_type}
+use Rattle.ir_core.specs.Operands.{op_operands, end_operands, symbol_text}
+use Rattle.ir_core.specs.Operands.{typed as with_type}
 use Rattle.ir_core.specs.Constants.{constant, zero_of, scalar_of}
 use Rattle.ir_core.specs.Instructions.{register, operand, typed, instruction, phi, call, terminator}
 use Rattle.ir_core.specs.Formed.{of_result, written_by, used_by, used_at_end}

@@ -43,7 +43,7 @@ set_has types regs d v h q before = at (nat_eq q d) refl before
 
 -- ---- phis
 
--- each phi's operand for a block has its value, so the registers are there behind it, with those of the phis
+-- each phi's operand for a block has its value, so the registers are there after it, with those of the phis
 module _ (types : ℕ → Scalar) (old : Regs) (from : ℕ) where
   abbrev pub TakesValue : Phi → Type 0
   TakesValue f = (v : Value) × (entry_value old (entry_for from f.entries) ≡ Some v) × IsOf (types f.reg.0) v
@@ -134,7 +134,7 @@ module _ (p : Program) (types : ℕ → ℕ → Scalar) (funcs : ℕ → FuncTyp
 
   -- ---- the next instruction
 
-  -- behind an instruction, where the register that it writes is there or awaited
+  -- after an instruction, where the register that it writes is there or awaited
   next_stands : {f b n : ℕ} {regs : Regs} (s : Stands None f b n regs) (i : FlatInstr) → slice_get s.block.code n ≡ Some i → (awaited : Option RegId) (new : Regs) →
       ((r : ℕ) → written_by i ≡ Some r ⊎ HasReg (types f) regs r → IsAwaited awaited r ⊎ HasReg (types f) new r) → Stands awaited f b (n + 1) new
   next_stands {f} {b} {n} {regs} s i at awaited new there = record {
@@ -152,7 +152,7 @@ module _ (p : Program) (types : ℕ → ℕ → Scalar) (funcs : ℕ → FuncTyp
 
       by_code : (r j : ℕ) (k : FlatInstr) → j < n + 1 → slice_get s.block.code j ≡ Some k → written_by k ≡ Some r → (j < n) ⊎ (n ≤ j) → IsAwaited awaited r ⊎ HasReg (types f) new r
       by_code r j k lt e w (inl before) = old r (inl (inr (j, k, before, e, w)))
-      by_code r j k lt e w (inr behind) =
+      by_code r j k lt e w (inr after) =
           let here : j ≡ n = omega arith in
           let same : k ≡ i = one_at (slice_get s.block.code n) k i (sym (ap (slice_get s.block.code) here) ∙ e) at in
           there r (inl (ap written_by (sym same) ∙ w))

@@ -17,7 +17,7 @@ use Rattle.ir_core.specs.declared.ty.IrType.TheVariants.{outs-Void, outs-Array, 
 use Rattle.ir_core.specs.Constants.{scalar_of, aligned_as, Index, joined, element, into, inside, element_of, walk, path}
 use Rattle.ir_core.specs.Memory.{scalar_size}
 use Rattle.ir_core.specs.Formed.{IsAlign}
-use Rattle.ir_core.specs.Sizes.{word_layout, array_of, empty, behind, rounded, placed, layout_by, field_layouts, definition, name_layout, layout, size, align, name_of, resolved, types_in, struct_types, fields}
+use Rattle.ir_core.specs.Sizes.{word_layout, array_of, empty, after, rounded, placed, layout_by, field_layouts, definition, name_layout, layout, size, align, name_of, resolved, types_in, struct_types, fields}
 use Rattle.ir_core.specs.ValidOps.{IsScalar}
 use Rattle.ir_core.specs.ValidTypes.{directly_in, StandsIn, IsTooLarge, IsGoodAlign}
 use Rattle.ir_core.proofs.Lists.{Has, Each, contains, has_at, has_in}
@@ -54,7 +54,7 @@ struct_aligned (Some l) h = h
 fields_aligned : (before : Layout) (ls : List (Option Layout)) → IsAlign before.align → Each IsAligned ls → IsAligned (placed before ls)
 fields_aligned before [] h g = h
 fields_aligned before (None ∷ ls) h g = tt
-fields_aligned before (Some l ∷ ls) h g = fields_aligned (behind before l) ls (greater_is IsAlign before.align l.align h g.0) g.1
+fields_aligned before (Some l ∷ ls) h g = fields_aligned (after before l) ls (greater_is IsAlign before.align l.align h g.0) g.1
 
 module _ (names : TypeName → Option Layout) (h : (x : TypeName) → IsAligned (names x)) where
   mutual

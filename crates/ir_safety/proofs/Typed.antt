@@ -14,7 +14,7 @@ use Rattle.ir_core.specs.declared.flat.BinOp.TheVariants.{Add, Sub, Mul, Udiv, S
 use Rattle.ir_core.specs.declared.flat.Cmp.{Cmp}
 use Rattle.ir_core.specs.declared.flat.CastOp.{CastOp}
 use Rattle.ir_core.specs.declared.flat.CastOp.TheVariants.{Zext, Sext, Trunc}
-use Rattle.ir_core.specs.Memory.{Value, Bits, At, Nowhere, Poisoned, Byte, Unset, PoisonByte, Octet, PartOf, Block, Memory, number, bits_below, null_or_poison, are_parts, pointer_of, loaded, is_within, load_from, load, scalar_size}
+use Rattle.ir_core.specs.Memory.{Value, Bits, At, NullPointer, Poisoned, Byte, Unset, PoisonByte, Octet, PartOf, Block, Memory, number, bits_below, null_or_poison, are_parts, pointer_of, loaded, is_within, load_from, load, scalar_size}
 use Rattle.ir_core.specs.Words.{Outcome, Known, NoWord, NoMeaning, by_shift, by_divisor, by_signed, word_op, divides, word_test, word_cast, bit}
 use Rattle.ir_core.specs.Rows.{Answer, Gives, NoGood, Mistyped, Read, Is, IsPoison, IsOther, as_word, outcome, of_unknown, bin_read, bin, test_read, pointer_test, is_pointer, bit_or_poison, icmp, choose, cast_read, moved, is_of}
 use Rattle.ir_core.specs.Formed.{is_cast}
@@ -45,7 +45,7 @@ tested a m lt = grind (arith, nat_tests)
 pub word_read : (w : Width) (v : Value) → IsOf (Word w) v → IsWord (modulus w) (as_word (modulus w) v)
 word_read w (Bits a) e = rw e (less a (modulus w) e)
 word_read w (At b o) e = absurd cc
-word_read w Nowhere e = absurd cc
+word_read w NullPointer e = absurd cc
 word_read w Poisoned e = tt
 
 -- ---- operations
@@ -175,7 +175,7 @@ test_of c w IsOther y h k = absurd h
 points : (v : Value) → IsOf Pointer v → is_pointer v ≡ true
 points (Bits a) e = absurd cc
 points (At b o) e = refl
-points Nowhere e = refl
+points NullPointer e = refl
 points Poisoned e = refl
 
 known_or_not : (o : Option Bool) → Answers (Word W1) (bit_or_poison o)
@@ -231,9 +231,9 @@ cast_of c from to IsOther h k = absurd k
 pub moved_of : (v : Value) (d : ℕ) → IsOf Pointer v → Answers Pointer (moved v d)
 moved_of (Bits a) d e = absurd cc
 moved_of (At b o) d e = refl
-moved_of Nowhere d e = at (nat_eq (d % 4294967296) 0)
+moved_of NullPointer d e = at (nat_eq (d % 4294967296) 0)
   where
-    at : (t : Bool) → Answers Pointer (if t then Gives Nowhere else Gives Poisoned)
+    at : (t : Bool) → Answers Pointer (if t then Gives NullPointer else Gives Poisoned)
     at true = refl
     at false = refl
 moved_of Poisoned d e = refl
@@ -284,5 +284,5 @@ from_of s align o (Some b) = at (is_within b o (scalar_size s) align) (take (sca
 pub load_of : (m : Memory) (s : Scalar) (align : ℕ) (v : Value) → Loads s (load m s align v)
 load_of m s align (Bits a) = tt
 load_of m s align (At b o) = from_of s align o (slice_get m b)
-load_of m s align Nowhere = tt
+load_of m s align NullPointer = tt
 load_of m s align Poisoned = tt

@@ -4,7 +4,7 @@ use ir_printer::print_module;
 use std::alloc::Global;
 use std::test::Fail;
 
-/// A module in each line, and behind a tab its text as it is printed, with `~` at the ends of their own lines: what clang
+/// A module in each line, and after a tab its text as it is printed, with `~` at the ends of their own lines: what clang
 /// writes, names in quotes, all instructions, blocks and terminators, all initialisers, entities between one another, and
 /// groups of attributes.
 const PRINTED: &str =

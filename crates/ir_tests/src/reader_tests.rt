@@ -29,7 +29,7 @@ fn lexical(alloc: Global, fault: LexFault) -> Result<String, AllocError> {
     }
 }
 
-/// The fault of a text, as it is told.
+/// The fault of a text, as it is reported.
 fn fault(alloc: Global, fault: ReadFault) -> Result<String, AllocError> {
     match fault {
         ReadFault::Lexical(fault) => lexical(alloc, fault),
@@ -47,7 +47,7 @@ fn said(alloc: Global, text: &[u8]) -> Result<String, AllocError> {
     }
 }
 
-/// Texts of one token a word, and behind each word whether the text may be cut there.
+/// Texts of one token a word, and after each word whether the text may be cut there.
 const FORMS: &str = "source_filename = \"a.c\"\tss
 target datalayout = \"e\"\tsss
 target triple = \"riscv32\"\tsss
@@ -324,7 +324,7 @@ fn faults(rt: HostRuntime) -> Result<(), Fail> {
     Ok(())
 }
 
-/// Adds names, each behind a space.
+/// Adds names, each after a space.
 fn push_names(told: &mut String, names: &[Text]) -> Result<(), Fail> {
     for name in names {
         told.push_str(" ")?;

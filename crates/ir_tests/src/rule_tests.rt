@@ -1,7 +1,7 @@
 use crate::verifier_tests::differences;
 use std::test::Fail;
 
-/// Modules of one or two functions, and behind a tab what the verifier says of them (`differences`): whether one of them is a good
+/// Modules of one or two functions, and after a tab what the verifier says of them (`differences`): whether one of them is a good
 /// `main`. Expected values of all tables are those of a plain model.
 const MAINS: &str = "define i32 @main() {~  ret i32 1~}\tvalid
 define internal i32 @main() {~  ret i32 1~}\trule 1 1:1

@@ -6,7 +6,7 @@ use oi_base::Place;
 use std::alloc::Global;
 use std::test::Fail;
 
-/// A module in each line, with `~` at the ends of its own lines, and behind a tab what the verifier says of it: the first broken
+/// A module in each line, with `~` at the ends of its own lines, and after a tab what the verifier says of it: the first broken
 /// rule with its place, and for the rule of assignment also the register and a path as positions of blocks. First come the rules of
 /// the module as a whole, then those of functions, then one function after another, and at last uses and definitions. In most rows
 /// later rules are broken too, often at earlier places. Expected values are those of a plain model.

@@ -21,14 +21,16 @@ use Rattle.ir_core.specs.declared.func.Block.{Block}
 use Rattle.ir_core.specs.declared.func.Func.{Func}
 use Rattle.ir_core.specs.declared.func.Param.{Param}
 use Rattle.ir_core.specs.Parts.{instrs, types_of}
-use Rattle.ir_core.specs.Stands.{Does, Ends, steps, block_steps, is_up_to, symbol_text}
+use Rattle.ir_core.specs.Operands.{Does, Ends, steps, block_steps, is_up_to, symbol_text}
 use Rattle.ir_core.specs.ValidModule.{Introduced, introduced, introduced_globals, introduced_funcs, BreaksSymbolTwice}
 use Rattle.ir_core.specs.ValidOps.{IsScalar, IsResultType, StepAgrees, OperandAgrees, IsDefinedAs, IsExternal, IsDeclaredAs, CallsWell, BreaksTypes, BreaksCalls}
 use Rattle.ir_core.proofs.Lists.{Has, has_left, has_part, contains, at_has, has_at}
 use Rattle.module_rules.specs.First.{earliest, IsFound}
-use Rattle.ir_verifier.specs.CallFaults.{same_kind, same_kinds, func_number, declared_number, func_numbers, declared_numbers, callee, is_word, is_void, is_one_word, is_none, is_putchar, is_getchar, is_exit, fits_external, fits_func, fits_callee, op_calls_well, call_fault, block_call_faults, call_faults}
+use Rattle.ir_core.specs.Types.{is_word}
+use Rattle.ir_verifier.specs.CallFaults.{same_kind, same_kinds, func_number, declared_number, func_numbers, declared_numbers, callee, is_void, is_one_word, is_none, is_putchar, is_getchar, is_exit, fits_external, fits_func, fits_callee, op_calls_well, call_fault, block_call_faults, call_faults}
 use Rattle.std.specs.Bool.{Decides}
 use Rattle.std.proofs.lemmas.Bool.Decides.{Decides-not}
+use Rattle.module_rules.proofs.WalkLaws.{word_decides}
 use Rattle.module_rules.proofs.Decided.{always, false_is_not_true}
 use Rattle.module_rules.proofs.Faulty.{has}
 use Rattle.module_rules.proofs.At.{found_in}
@@ -61,7 +63,7 @@ kinds_of (q ∷ qs) (a ∷ as') e s =
 -- ---- externals
 
 word_kind : (t : IrType) → is_word t ≡ true → t ≡ Int W32
-word_kind t e = of_kind t (Int W32) e
+word_kind t e = (word_decides t).0 e
 
 one_word : (as' : List TypedOperand) → is_one_word as' ≡ true → types_of as' ≡ Int W32 ∷ []
 one_word [] e = absurd (false_is_not_true e)

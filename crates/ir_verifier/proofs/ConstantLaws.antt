@@ -13,7 +13,7 @@ use Rattle.ir_core.specs.declared.op.Op.{Op}
 use Rattle.ir_core.specs.declared.op.Op.TheVariants.{Bin, Icmp, Select, Cast, Alloca, Load, Store, Gep, Phi, Call}
 use Rattle.ir_core.specs.declared.func.Func.{Func}
 use Rattle.oi_base.specs.declared.ids.Place.{Place}
-use Rattle.ir_core.specs.Stands.{Step, Does, Ends, steps, place_of, op_operands, end_operands, operands_of}
+use Rattle.ir_core.specs.Operands.{Step, Does, Ends, steps, place_of, op_operands, end_operands, operands_of}
 use Rattle.ir_core.specs.ValidConsts.{FitsType}
 use Rattle.ir_core.specs.ValidOps.{ConstFits, OperandFits, CountFits, BreaksConstants}
 use Rattle.module_rules.specs.First.{earliest, IsFound}

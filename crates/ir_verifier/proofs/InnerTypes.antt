@@ -12,7 +12,7 @@ use Rattle.ir_core.specs.declared.ty.IrType.TheVariants as types
 use Rattle.ir_core.specs.declared.ty.IrType.TheVariants.{rolls-Array, rolls-Struct}
 use Rattle.ir_core.specs.declared.ty.IrType.TheOpen.{IrType-F}
 use Rattle.ir_core.specs.declared.ty.IrType.TheViews.{out-IrType, roll-IrType, roll-out-IrType, outs-Named}
-use Rattle.ir_core.specs.Sizes.{array_of, empty, behind, rounded, placed, name_layout, definition, layout, IsLaid, size, name_of, resolved, types_in}
+use Rattle.ir_core.specs.Sizes.{array_of, empty, after, rounded, placed, name_layout, definition, layout, IsLaid, size, name_of, resolved, types_in}
 use Rattle.ir_core.specs.ValidTypes.{directly_in, StandsIn, IsTooLarge}
 use Rattle.ir_core.specs.ValidConsts.{Index, GoesInto, plain}
 use Rattle.ir_core.proofs.Lists.{Has, contains, has_at}
@@ -56,7 +56,7 @@ each_placed : (os : List (Option Layout)) (b : Layout) (k : ℕ) (o : Option Lay
 each_placed [] b k o s e = absurd (let clash : None ≡ Some o = e in cc)
 each_placed (None ∷ os) b k o s e = cc
 each_placed (Some l ∷ os) b zero o s e = let same : Some l ≡ o = cc in subst IsSome same refl
-each_placed (Some l ∷ os) b (suc k) o s e = each_placed os (behind b l) k o s e
+each_placed (Some l ∷ os) b (suc k) o s e = each_placed os (after b l) k o s e
 
 module _ (defs : List TypeDef) where
   of_name : (t : IrType) (d : TypeDef) → option_and_then (definition defs) (name_of t) ≡ Some d → (x : TypeName) × (t ≡ Named x) × (definition defs x ≡ Some d)

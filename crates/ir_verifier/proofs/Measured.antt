@@ -28,7 +28,7 @@ use Rattle.ir_core.specs.declared.func.Func.{Func}
 use Rattle.ir_core.specs.Parts.{names_in_type, const_types, operand_consts, op_values}
 use Rattle.ir_core.specs.Sizes.{definition, resolved, IsLaid}
 use Rattle.ir_core.specs.Acyclic.{HasNoVoid, HaveNoVoid, HoldsItself, IsAcyclic}
-use Rattle.ir_core.specs.Stands.{Step, Does, Ends, steps, block_steps, typed, operands_of}
+use Rattle.ir_core.specs.Operands.{Step, Does, Ends, steps, block_steps, typed, operands_of}
 use Rattle.ir_core.specs.ValidTypes.{value_use, value_uses, op_uses, types_in_values, step_uses, func_uses, type_uses, BreaksTypeNames, const_sources, op_sized, step_sized, IsTooLarge, BreaksSizes}
 use Rattle.ir_core.specs.ValidOps.{OperandAgrees, StepAgrees, OperandFits, BreaksTypes, BreaksConstants}
 use Rattle.ir_core.proofs.Lists.{Has, has_left, has_right, has_part, has_at, contains}

@@ -6,11 +6,15 @@ use Rattle.std.specs.Prelude.{get_or}
 use Rattle.oi_base.specs.declared.ids.Place.{Place}
 use Rattle.ir_core.specs.declared.func.Func.{Func}
 use Rattle.ir_core.specs.declared.module.Module.{Module}
-use Rattle.ir_core.specs.Stands.{is_up_to}
+use Rattle.ir_core.specs.Operands.{is_up_to}
 use Rattle.ir_core.specs.Valid.{IsValid, IsValidFunc}
 use Rattle.ir_verifier.proofs.VerdictLaws.{module_rule_at, module_rule_back, func_rule_at, func_rule_back}
 use Rattle.ir_verifier.proofs.VerdictTold.{at_position, keeps_own, keeps_funcs}
-use Rattle.ir_core.specs.FirstBroken.{ModuleRule, Main, SymbolTwice, TypeNames, Sizes, Initialisers, Totals, Alignments, Target, FuncRule, Names, References, Positions, Entry, Types, Constants, Calls, Phis, Cases, Assignment, module_rule, func_rule, BreaksModule, BreaksFunc, IsFirstPlace, IsModuleFault, IsFuncFault, IsFirstBroken}
+use Rattle.ir_core.specs.declared.rule.ModuleRule.{ModuleRule}
+use Rattle.ir_core.specs.declared.rule.ModuleRule.TheVariants.{Main, SymbolTwice, TypeNames, Sizes, Initialisers, Totals, Alignments, Target}
+use Rattle.ir_core.specs.declared.rule.FuncRule.{FuncRule}
+use Rattle.ir_core.specs.declared.rule.FuncRule.TheVariants.{Names, References, Positions, Entry, Types, Constants, Calls, Phis, Cases, Assignment}
+use Rattle.ir_core.specs.FirstBroken.{module_rule, func_rule, BreaksModule, BreaksFunc, IsFirstPlace, IsModuleFault, IsFuncFault, IsFirstBroken}
 
 -- ---- first places
 

@@ -15,7 +15,7 @@ use Rattle.ir_core.specs.declared.func.Block.{Block}
 use Rattle.ir_core.specs.declared.func.Func.{Func}
 use Rattle.ir_core.specs.Proper.{IsValue, IsProperFunc}
 use Rattle.ir_core.specs.Parts.{op_values, end_values, block_values, func_values, operand_consts, func_consts}
-use Rattle.ir_core.specs.Stands.{Step, Does, Ends, steps, block_steps, op_operands, end_operands, operands_of, typed}
+use Rattle.ir_core.specs.Operands.{Step, Does, Ends, steps, block_steps, op_operands, end_operands, operands_of, typed}
 use Rattle.ir_core.proofs.Lists.{Has, has_left, has_right, has_part, contains}
 use Rattle.module_rules.proofs.Sets.{has_made}
 use Rattle.ir_verifier.proofs.ReferenceLaws.{IsPlain}

@@ -43,14 +43,14 @@ alloca_decides (Gep t a is) = never (λ h. h)
 alloca_decides (Call t f as') = never (λ h. h)
 
 -- something that is no phi stands before instruction n
-abbrev Behind : List Instr → ℕ → Type 0
-Behind code n = (k : ℕ) × (j : Instr) × (k < n) × (slice_get code k ≡ Some j) × (IsPhi j.op → ⊥)
+abbrev After : List Instr → ℕ → Type 0
+After code n = (k : ℕ) × (j : Instr) × (k < n) × (slice_get code k ≡ Some j) × (IsPhi j.op → ⊥)
 
--- an instruction that stands wrong in code that begins behind something that is no phi, or not
+-- an instruction that stands wrong in code that begins after something that is no phi, or not
 abbrev Wrong : (entry late : Bool) → List Instr → Place → Type 0
 Wrong entry late code p =
     (n : ℕ) × (i : Instr) × (slice_get code n ≡ Some i) × (i.place ≡ p)
-    × ((IsPhi i.op × ((late ≡ true) ⊎ Behind code n)) ⊎ (IsAlloca i.op × (entry ≡ false)))
+    × ((IsPhi i.op × ((late ≡ true) ⊎ After code n)) ⊎ (IsAlloca i.op × (entry ≡ false)))
 
 placed : (t : Bool) (p q : Place) → Has (if t then (p ∷ []) else []) q → (t ≡ true) × (p ≡ q)
 placed true p q (inl e) = (refl, e)
@@ -77,7 +77,7 @@ because true false c d (inr h) = rw h.0 (rw h.1 refl)
 because false b c d (inl h) = absurd (let clash : false ≡ true = h.0 in cc)
 because false b c d (inr h) = rw h.0 (rw h.1 refl)
 
--- the test of an instruction behind something that is no phi, or not
+-- the test of an instruction after something that is no phi, or not
 later : (late : Bool) (op : Op) → ((late || not (is_phi op)) ≡ true) → (late ≡ true) ⊎ (IsPhi op → ⊥)
 later true op e = inl refl
 later false op e = inr ((Decides-not (is_phi op) (phi_decides op)).0 e)
@@ -95,23 +95,23 @@ module _ (entry : Bool) where
       here : (is_misplaced entry late i.op ≡ true) × (i.place ≡ p) → Wrong entry late (i ∷ is) p
       here t = (0, i, refl, t.1, reason (why (is_phi i.op) late (is_alloca i.op) entry t.0))
         where
-          reason : ((is_phi i.op ≡ true) × (late ≡ true)) ⊎ ((is_alloca i.op ≡ true) × (entry ≡ false)) → (IsPhi i.op × ((late ≡ true) ⊎ Behind (i ∷ is) 0)) ⊎ (IsAlloca i.op × (entry ≡ false))
+          reason : ((is_phi i.op ≡ true) × (late ≡ true)) ⊎ ((is_alloca i.op ≡ true) × (entry ≡ false)) → (IsPhi i.op × ((late ≡ true) ⊎ After (i ∷ is) 0)) ⊎ (IsAlloca i.op × (entry ≡ false))
           reason (inl r) = inl ((phi_decides i.op).0 r.0, inl r.1)
           reason (inr r) = inr ((alloca_decides i.op).0 r.0, r.1)
 
       next : Wrong entry (late || not (is_phi i.op)) is p → Wrong entry late (i ∷ is) p
       next w = (suc w.0, w.1, w.2, w.3, reason w.4)
         where
-          behind : ((late || not (is_phi i.op)) ≡ true) ⊎ Behind is w.0 → (late ≡ true) ⊎ Behind (i ∷ is) (suc w.0)
-          behind (inr b) = inr (suc b.0, b.1, omega (arith, b.2), b.3, b.4)
-          behind (inl e) = by_cause (later late i.op e)
+          after : ((late || not (is_phi i.op)) ≡ true) ⊎ After is w.0 → (late ≡ true) ⊎ After (i ∷ is) (suc w.0)
+          after (inr b) = inr (suc b.0, b.1, omega (arith, b.2), b.3, b.4)
+          after (inl e) = by_cause (later late i.op e)
             where
-              by_cause : (late ≡ true) ⊎ (IsPhi i.op → ⊥) → (late ≡ true) ⊎ Behind (i ∷ is) (suc w.0)
+              by_cause : (late ≡ true) ⊎ (IsPhi i.op → ⊥) → (late ≡ true) ⊎ After (i ∷ is) (suc w.0)
               by_cause (inl g) = inl g
               by_cause (inr g) = inr (0, i, omega arith, refl, g)
 
-          reason : (IsPhi w.1.op × (((late || not (is_phi i.op)) ≡ true) ⊎ Behind is w.0)) ⊎ (IsAlloca w.1.op × (entry ≡ false)) → (IsPhi w.1.op × ((late ≡ true) ⊎ Behind (i ∷ is) (suc w.0))) ⊎ (IsAlloca w.1.op × (entry ≡ false))
-          reason (inl r) = inl (r.0, behind r.1)
+          reason : (IsPhi w.1.op × (((late || not (is_phi i.op)) ≡ true) ⊎ After is w.0)) ⊎ (IsAlloca w.1.op × (entry ≡ false)) → (IsPhi w.1.op × ((late ≡ true) ⊎ After (i ∷ is) (suc w.0))) ⊎ (IsAlloca w.1.op × (entry ≡ false))
+          reason (inl r) = inl (r.0, after r.1)
           reason (inr r) = inr r
 
       by_part : Has (place_if (is_misplaced entry late i.op) i.place) p ⊎ Has (code_faults entry (late || not (is_phi i.op)) is) p → (Has (code_faults entry (late || not (is_phi i.op)) is) p → Wrong entry (late || not (is_phi i.op)) is p) → Wrong entry late (i ∷ is) p
@@ -122,35 +122,35 @@ module _ (entry : Bool) where
   complete [] late p w = absurd (let clash : None ≡ Some w.1 = w.2 in cc)
   complete (i ∷ is) late p w = by_index w.0 w.2 w.4 (complete is (late || not (is_phi i.op)) p)
     where
-      here : (w.1 ≡ i) → (IsPhi w.1.op × ((late ≡ true) ⊎ Behind (i ∷ is) 0)) ⊎ (IsAlloca w.1.op × (entry ≡ false)) → Has (code_faults entry late (i ∷ is)) p
+      here : (w.1 ≡ i) → (IsPhi w.1.op × ((late ≡ true) ⊎ After (i ∷ is) 0)) ⊎ (IsAlloca w.1.op × (entry ≡ false)) → Has (code_faults entry late (i ∷ is)) p
       here same r = has_left (place_if (is_misplaced entry late i.op) i.place) (code_faults entry (late || not (is_phi i.op)) is) p
-          (put (is_misplaced entry late i.op) i.place p (because (is_phi i.op) late (is_alloca i.op) entry (reason (subst (λ (j : Instr). (IsPhi j.op × ((late ≡ true) ⊎ Behind (i ∷ is) 0)) ⊎ (IsAlloca j.op × (entry ≡ false))) same r))) (subst (λ (j : Instr). j.place ≡ p) same w.3))
+          (put (is_misplaced entry late i.op) i.place p (because (is_phi i.op) late (is_alloca i.op) entry (reason (subst (λ (j : Instr). (IsPhi j.op × ((late ≡ true) ⊎ After (i ∷ is) 0)) ⊎ (IsAlloca j.op × (entry ≡ false))) same r))) (subst (λ (j : Instr). j.place ≡ p) same w.3))
         where
-          nothing : Behind (i ∷ is) 0 → ⊥
+          nothing : After (i ∷ is) 0 → ⊥
           nothing b = omega (arith, b.2)
 
-          is_late : (late ≡ true) ⊎ Behind (i ∷ is) 0 → late ≡ true
+          is_late : (late ≡ true) ⊎ After (i ∷ is) 0 → late ≡ true
           is_late (inl e) = e
           is_late (inr b) = absurd (nothing b)
 
-          reason : (IsPhi i.op × ((late ≡ true) ⊎ Behind (i ∷ is) 0)) ⊎ (IsAlloca i.op × (entry ≡ false)) → ((is_phi i.op ≡ true) × (late ≡ true)) ⊎ ((is_alloca i.op ≡ true) × (entry ≡ false))
+          reason : (IsPhi i.op × ((late ≡ true) ⊎ After (i ∷ is) 0)) ⊎ (IsAlloca i.op × (entry ≡ false)) → ((is_phi i.op ≡ true) × (late ≡ true)) ⊎ ((is_alloca i.op ≡ true) × (entry ≡ false))
           reason (inl q) = inl ((phi_decides i.op).1 q.0, is_late q.1)
           reason (inr q) = inr ((alloca_decides i.op).1 q.0, q.1)
 
-      by_index : (n : ℕ) → slice_get (i ∷ is) n ≡ Some w.1 → (IsPhi w.1.op × ((late ≡ true) ⊎ Behind (i ∷ is) n)) ⊎ (IsAlloca w.1.op × (entry ≡ false)) → (Wrong entry (late || not (is_phi i.op)) is p → Has (code_faults entry (late || not (is_phi i.op)) is) p) → Has (code_faults entry late (i ∷ is)) p
+      by_index : (n : ℕ) → slice_get (i ∷ is) n ≡ Some w.1 → (IsPhi w.1.op × ((late ≡ true) ⊎ After (i ∷ is) n)) ⊎ (IsAlloca w.1.op × (entry ≡ false)) → (Wrong entry (late || not (is_phi i.op)) is p → Has (code_faults entry (late || not (is_phi i.op)) is) p) → Has (code_faults entry late (i ∷ is)) p
       by_index zero at r rest = here (let same : Some i ≡ Some w.1 = at in cc) r
       by_index (suc n) at r rest = has_right (place_if (is_misplaced entry late i.op) i.place) (code_faults entry (late || not (is_phi i.op)) is) p (rest (n, w.1, at, w.3, reason r))
         where
-          behind : (late ≡ true) ⊎ Behind (i ∷ is) (suc n) → ((late || not (is_phi i.op)) ≡ true) ⊎ Behind is n
-          behind (inl e) = inl (is_later late i.op (inl e))
-          behind (inr b) = by_place b.0 b.2 b.3
+          after : (late ≡ true) ⊎ After (i ∷ is) (suc n) → ((late || not (is_phi i.op)) ≡ true) ⊎ After is n
+          after (inl e) = inl (is_later late i.op (inl e))
+          after (inr b) = by_place b.0 b.2 b.3
             where
-              by_place : (k : ℕ) → k < suc n → slice_get (i ∷ is) k ≡ Some b.1 → ((late || not (is_phi i.op)) ≡ true) ⊎ Behind is n
+              by_place : (k : ℕ) → k < suc n → slice_get (i ∷ is) k ≡ Some b.1 → ((late || not (is_phi i.op)) ≡ true) ⊎ After is n
               by_place zero lt e = inl (is_later late i.op (inr (subst (λ (j : Instr). IsPhi j.op → ⊥) (let same : Some i ≡ Some b.1 = e in let back : b.1 ≡ i = cc in back) b.4)))
               by_place (suc k) lt e = inr (k, b.1, omega (arith, lt), e, b.4)
 
-          reason : (IsPhi w.1.op × ((late ≡ true) ⊎ Behind (i ∷ is) (suc n))) ⊎ (IsAlloca w.1.op × (entry ≡ false)) → (IsPhi w.1.op × (((late || not (is_phi i.op)) ≡ true) ⊎ Behind is n)) ⊎ (IsAlloca w.1.op × (entry ≡ false))
-          reason (inl q) = inl (q.0, behind q.1)
+          reason : (IsPhi w.1.op × ((late ≡ true) ⊎ After (i ∷ is) (suc n))) ⊎ (IsAlloca w.1.op × (entry ≡ false)) → (IsPhi w.1.op × (((late || not (is_phi i.op)) ≡ true) ⊎ After is n)) ⊎ (IsAlloca w.1.op × (entry ≡ false))
+          reason (inl q) = inl (q.0, after q.1)
           reason (inr q) = inr q
 
 -- the block of a place among blocks of which the first is the entry, or not
@@ -166,12 +166,12 @@ blocks_sound (b ∷ bs) entry p h = by_part (has_in (position_fault entry b) (po
     here : Wrong entry false b.code p → At entry (b ∷ bs) p
     here w = (0, w.0, b, w.1, refl, w.2, w.3, reason w.4)
       where
-        is_behind : (false ≡ true) ⊎ Behind b.code w.0 → Behind b.code w.0
-        is_behind (inl e) = absurd (let clash : false ≡ true = e in cc)
-        is_behind (inr g) = g
+        is_after : (false ≡ true) ⊎ After b.code w.0 → After b.code w.0
+        is_after (inl e) = absurd (let clash : false ≡ true = e in cc)
+        is_after (inr g) = g
 
-        reason : (IsPhi w.1.op × ((false ≡ true) ⊎ Behind b.code w.0)) ⊎ (IsAlloca w.1.op × (entry ≡ false)) → IsLatePhi b w.0 w.1 ⊎ (IsAlloca w.1.op × ((zero ≢ zero) ⊎ (entry ≡ false)))
-        reason (inl r) = inl (r.0, is_behind r.1)
+        reason : (IsPhi w.1.op × ((false ≡ true) ⊎ After b.code w.0)) ⊎ (IsAlloca w.1.op × (entry ≡ false)) → IsLatePhi b w.0 w.1 ⊎ (IsAlloca w.1.op × ((zero ≢ zero) ⊎ (entry ≡ false)))
+        reason (inl r) = inl (r.0, is_after r.1)
         reason (inr r) = inr (r.0, inr r.1)
 
     next : At false bs p → At entry (b ∷ bs) p
@@ -199,7 +199,7 @@ blocks_complete (b ∷ bs) entry p a = by_index a.0 a.4 a.7 (blocks_complete bs 
         is_entry (inl g) = absurd (g refl)
         is_entry (inr g) = g
 
-        reason : IsLatePhi a.2 a.1 a.3 ⊎ (IsAlloca a.3.op × ((zero ≢ zero) ⊎ (entry ≡ false))) → (IsPhi a.3.op × ((false ≡ true) ⊎ Behind a.2.code a.1)) ⊎ (IsAlloca a.3.op × (entry ≡ false))
+        reason : IsLatePhi a.2 a.1 a.3 ⊎ (IsAlloca a.3.op × ((zero ≢ zero) ⊎ (entry ≡ false))) → (IsPhi a.3.op × ((false ≡ true) ⊎ After a.2.code a.1)) ⊎ (IsAlloca a.3.op × (entry ≡ false))
         reason (inl q) = inl (q.0, inr q.1)
         reason (inr q) = inr (q.0, is_entry q.1)
     by_index (suc at) e r rest = has_right (position_fault entry b) (position_faults_from false bs) p (rest (at, a.1, a.2, a.3, e, a.5, a.6, reason r))

@@ -15,7 +15,7 @@ use Rattle.ir_core.specs.declared.func.Block.{Block}
 use Rattle.ir_core.specs.declared.func.Func.{Func}
 use Rattle.ir_core.specs.Proper.{IsValue}
 use Rattle.ir_core.specs.Parts.{instrs, const_symbols}
-use Rattle.ir_core.specs.Stands.{Step, operands_of, labels_of}
+use Rattle.ir_core.specs.Operands.{Step, operands_of, labels_of}
 use Rattle.ir_core.specs.ValidConsts.{IsVariable}
 use Rattle.ir_core.specs.ValidFunc.{IsParam, IsRegister, IsLabel, IsKnown, RefersWrongly}
 use Rattle.ir_core.proofs.Lists.{Has, has_part, contains}

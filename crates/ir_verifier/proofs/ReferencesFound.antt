@@ -5,7 +5,7 @@ use Rattle.oi_base.specs.declared.ids.Place.{Place}
 use Rattle.ir_core.specs.declared.module.Module.{Module}
 use Rattle.ir_core.specs.declared.func.Func.{Func}
 use Rattle.ir_core.specs.Proper.{IsProperFunc}
-use Rattle.ir_core.specs.Stands.{Step, Does, Ends, steps, place_of, operands_of, labels_of}
+use Rattle.ir_core.specs.Operands.{Step, Does, Ends, steps, place_of, operands_of, labels_of}
 use Rattle.ir_core.specs.ValidFunc.{RefersWrongly, BreaksReferences}
 use Rattle.module_rules.specs.First.{earliest, IsFound}
 use Rattle.ir_verifier.specs.Faults.{is_known, is_label, step_is_known, scope_of, reference_faults, Scope}

@@ -15,7 +15,8 @@ use Rattle.ir_core.specs.ValidOps.{IsScalar, IsResultType, op_result, LocalHasTy
 use Rattle.ir_core.proofs.Lists.{Has, has_part, contains}
 use Rattle.module_rules.specs.Faults.{numbers_of}
 use Rattle.ir_verifier.specs.CallFaults.{same_kind}
-use Rattle.ir_verifier.specs.TypeFaults.{is_scalar, is_result_type, number_if, param_of, makes, result_of, results_of, locals_of, registers_of, has_type}
+use Rattle.ir_core.specs.Types.{is_scalar}
+use Rattle.ir_verifier.specs.TypeFaults.{is_result_type, number_if, param_of, makes, result_of, results_of, locals_of, registers_of, has_type}
 use Rattle.module_rules.proofs.Decided.{always, never}
 use Rattle.module_rules.proofs.Faulty.{has}
 use Rattle.ir_verifier.proofs.KindLaws.{of_kind, kind_of_scalar, kind_of_result}

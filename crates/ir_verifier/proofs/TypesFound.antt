@@ -5,7 +5,6 @@ use Rattle.std.specs.List.{list_all}
 use Rattle.std.proofs.lemmas.Bool.Decides.{Decides-and, Decides-not, nat_tests}
 use Rattle.oi_base.specs.declared.ids.Place.{Place}
 use Rattle.oi_base.specs.declared.words.Width.{Width}
-use Rattle.oi_base.specs.declared.words.Width.TheVariants.{W1}
 use Rattle.ir_core.specs.declared.ty.TypeDef.{TypeDef}
 use Rattle.ir_core.specs.declared.ty.IrType.{IrType, Void, Int, Ptr, Array', Struct', Named}
 use Rattle.ir_core.specs.declared.module.Module.{Module}
@@ -23,7 +22,7 @@ use Rattle.ir_core.specs.declared.op.End.{End}
 use Rattle.ir_core.specs.declared.op.End.TheVariants.{Ret, Br, Cond, Switch, Unreachable}
 use Rattle.ir_core.specs.declared.func.Func.{Func}
 use Rattle.ir_core.specs.declared.func.Param.{Param}
-use Rattle.ir_core.specs.Stands.{Step, Does, Ends, steps, place_of, op_operands, end_operands}
+use Rattle.ir_core.specs.Operands.{Step, Does, Ends, steps, place_of, op_operands, end_operands}
 use Rattle.ir_core.specs.Formed.{is_cast}
 use Rattle.ir_core.specs.ValidConsts.{const_index, index_of, IsInteger}
 use Rattle.ir_core.specs.ValidOps.{IsScalar, HasGoodTypes, ConstAgrees, ValueAgrees, OperandAgrees, OpAgrees, EndAgrees, StepAgrees, BreaksTypes}
@@ -31,13 +30,15 @@ use Rattle.ir_core.proofs.Lists.{Has, has_left, has_right, contains}
 use Rattle.module_rules.specs.First.{earliest, IsFound}
 use Rattle.module_rules.specs.Faults.{place_if}
 use Rattle.ir_verifier.specs.CallFaults.{same_kind}
-use Rattle.module_rules.specs.Walks.{is_integer, walks}
-use Rattle.ir_verifier.specs.TypeFaults.{is_scalar, is_result_type, is_good_param, has_good_types, typing_of, const_agrees, value_agrees, operand_agrees, casts, casts_to, fits_op, fits_end, step_agrees, type_faults}
+use Rattle.ir_core.specs.Types.{is_integer, is_bit, is_pointer, is_scalar}
+use Rattle.module_rules.specs.Walks.{walks}
+use Rattle.ir_verifier.specs.TypeFaults.{is_result_type, is_good_param, has_good_types, typing_of, const_agrees, value_agrees, operand_agrees, casts, casts_to, fits_op, fits_end, step_agrees, type_faults}
 use Rattle.module_rules.proofs.Decided.{always, never, each}
 use Rattle.module_rules.proofs.Earliest.{found}
 use Rattle.module_rules.proofs.Faulty.{has, has_in}
 use Rattle.module_rules.proofs.Faulty.{places, has_fault, fault_has}
 use Rattle.module_rules.proofs.At.{step_places}
+use Rattle.module_rules.proofs.IntegerLaws.{bit_decides, pointer_decides}
 use Rattle.module_rules.proofs.WalkLaws.{integer_decides, and_then, walk_decides}
 use Rattle.ir_verifier.proofs.TypeLaws.{scalar_decides, result_decides, kind_decides, scalar_kind, scalar_of_integer, local_decides}
 
@@ -82,9 +83,9 @@ module _ (m : Module) (f : Func) where
 
   const_decides : (t : IrType) (c : Const) → Decides (const_agrees (typing_of m f) t c) (ConstAgrees Defs c t)
   const_decides t (consts.Int n) = integer_decides t
-  const_decides t (consts.Address g) = kind_decides t Ptr (inr tt)
+  const_decides t (consts.Address g) = pointer_decides t
   const_decides t (consts.Gep source g is) =
-      and_then (same_kind t Ptr) (walks Defs source (map const_index is)) (kind_decides t Ptr (inr tt)) (λ h. walk_decides Defs (map const_index is) source)
+      and_then (is_pointer t) (walks Defs source (map const_index is)) (pointer_decides t) (λ h. walk_decides Defs (map const_index is) source)
   const_decides t (consts.Bool b) = always
   const_decides t consts.Null = always
   const_decides t consts.Undef = always
@@ -110,14 +111,14 @@ module _ (m : Module) (f : Func) where
   op_decides (Bin op t a b) all = integer_decides t
   op_decides (Icmp c t a b) all = scalar_decides t
   op_decides (Select c a b) all =
-      Decides-and (same_kind c.ty (Int W1)) (same_kind a.ty b.ty) (kind_decides c.ty (Int W1) (inr tt)) (scalar_kind a.ty b.ty (let second : OperandAgrees Defs f a = all 1 c (omega arith) in second.0))
+      Decides-and (is_bit c.ty) (same_kind a.ty b.ty) (bit_decides c.ty) (scalar_kind a.ty b.ty (let second : OperandAgrees Defs f a = all 1 c (omega arith) in second.0))
   op_decides (Cast c a t) all = casts_decide c a.ty t
   op_decides (Alloca t None align) all = always
   op_decides (Alloca t (Some n) align) all = integer_decides n.ty
-  op_decides (Load t a align) all = Decides-and (is_scalar t) (same_kind a.ty Ptr) (scalar_decides t) (kind_decides a.ty Ptr (inr tt))
-  op_decides (Store a p align) all = kind_decides p.ty Ptr (inr tt)
+  op_decides (Load t a align) all = Decides-and (is_scalar t) (is_pointer a.ty) (scalar_decides t) (pointer_decides a.ty)
+  op_decides (Store a p align) all = pointer_decides p.ty
   op_decides (Gep t a is) all =
-      Decides-and (same_kind a.ty Ptr) (walks Defs t (map index_of is)) (kind_decides a.ty Ptr (inr tt)) (walk_decides Defs (map index_of is) t)
+      Decides-and (is_pointer a.ty) (walks Defs t (map index_of is)) (pointer_decides a.ty) (walk_decides Defs (map index_of is) t)
   op_decides (Phi t es) all = scalar_decides t
   op_decides (Call t g as') all = result_decides t
 
@@ -125,7 +126,7 @@ module _ (m : Module) (f : Func) where
   end_decides (Ret None) all = kind_decides f.result Void (inl refl)
   end_decides (Ret (Some a)) all = scalar_kind a.ty f.result (let first : OperandAgrees Defs f a = all 0 a (omega arith) in first.0)
   end_decides (Br b) all = always
-  end_decides (Cond c t e) all = kind_decides c.ty (Int W1) (inr tt)
+  end_decides (Cond c t e) all = bit_decides c.ty
   end_decides (Switch a other cases) all =
       and_then (is_integer a.ty) (list_all (λ (c : SwitchCase). same_kind c.value.ty a.ty) cases) (integer_decides a.ty)
       (λ (i : IsInteger a.ty). each (λ (c : SwitchCase). same_kind c.value.ty a.ty) (λ (c : SwitchCase). c.value.ty ≡ a.ty) (λ (c : SwitchCase). kind_decides c.value.ty a.ty (inr (scalar_of_integer a.ty i))) cases)

@@ -8,7 +8,11 @@ use Rattle.ir_core.specs.Proper.{IsProper, IsProperFunc}
 use Rattle.ir_core.specs.Valid.{IsValid, IsValidFunc}
 use Rattle.ir_core.specs.ValidFunc.{locals_at}
 use Rattle.ir_core.specs.ValidPaths.{BreaksAssignment}
-use Rattle.ir_core.specs.FirstBroken.{ModuleRule, Main, SymbolTwice, TypeNames, Sizes, Initialisers, Totals, Alignments, Target, FuncRule, Names, References, Positions, Entry, Types, Constants, Calls, Phis, Cases, Assignment, module_rule, func_rule, BreaksModule, BreaksFunc, IsFirstPlace, IsModuleFault, IsFuncFault, IsFirstBroken}
+use Rattle.ir_core.specs.declared.rule.ModuleRule.{ModuleRule}
+use Rattle.ir_core.specs.declared.rule.ModuleRule.TheVariants.{Main, SymbolTwice, TypeNames, Sizes, Initialisers, Totals, Alignments, Target}
+use Rattle.ir_core.specs.declared.rule.FuncRule.{FuncRule}
+use Rattle.ir_core.specs.declared.rule.FuncRule.TheVariants.{Names, References, Positions, Entry, Types, Constants, Calls, Phis, Cases, Assignment}
+use Rattle.ir_core.specs.FirstBroken.{module_rule, func_rule, BreaksModule, BreaksFunc, IsFirstPlace, IsModuleFault, IsFuncFault, IsFirstBroken}
 use Rattle.ir_core.proofs.Lists.{element}
 use Rattle.module_rules.specs.First.{earliest}
 use Rattle.module_rules.proofs.RulesDecided.{Found, decided}

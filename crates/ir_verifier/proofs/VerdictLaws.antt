@@ -7,7 +7,11 @@ use Rattle.ir_core.specs.declared.func.Func.{Func}
 use Rattle.ir_core.specs.Proper.{IsProper}
 use Rattle.ir_core.specs.Valid.{IsValidFunc}
 use Rattle.ir_core.specs.ValidPaths.{BreaksAssignment}
-use Rattle.ir_core.specs.FirstBroken.{ModuleRule, Main, SymbolTwice, TypeNames, Sizes, Initialisers, Totals, Alignments, Target, FuncRule, Names, References, Positions, Entry, Types, Constants, Calls, Phis, Cases, Assignment, module_rule, func_rule, BreaksModule, BreaksFunc, IsFirstPlace}
+use Rattle.ir_core.specs.declared.rule.ModuleRule.{ModuleRule}
+use Rattle.ir_core.specs.declared.rule.ModuleRule.TheVariants.{Main, SymbolTwice, TypeNames, Sizes, Initialisers, Totals, Alignments, Target}
+use Rattle.ir_core.specs.declared.rule.FuncRule.{FuncRule}
+use Rattle.ir_core.specs.declared.rule.FuncRule.TheVariants.{Names, References, Positions, Entry, Types, Constants, Calls, Phis, Cases, Assignment}
+use Rattle.ir_core.specs.FirstBroken.{module_rule, func_rule, BreaksModule, BreaksFunc, IsFirstPlace}
 use Rattle.module_rules.specs.First.{IsFound}
 use Rattle.ir_assigned.specs.declared.fault.AssignFault.{AssignFault}
 use Rattle.ir_assigned.specs.declared.fault.AssignFault.TheVariants as assign_faults
@@ -67,7 +71,7 @@ module_rule_range Totals = (omega arith, omega arith)
 module_rule_range Alignments = (omega arith, omega arith)
 module_rule_range Target = (omega arith, omega arith)
 
-pub no_module_rule : (m : Module) → MeetsModuleRulesBelow 1 m
+pub no_module_rule : (m : Module) → MeetsModuleRulesBelow (module_rule Main) m
 no_module_rule m s q lt b = let r = (module_rule_range s).0 in absurd (omega (arith, lt, r))
 
 pub all_module_rules : (m : Module) → MeetsModuleRulesBelow 9 m → MeetsModuleRules m
@@ -127,7 +131,7 @@ func_rule_from Phis = omega arith
 func_rule_from Cases = omega arith
 func_rule_from Assignment = omega arith
 
-pub no_func_rule : (m : Module) (f : Func) → MeetsFuncRulesBelow 9 m f
+pub no_func_rule : (m : Module) (f : Func) → MeetsFuncRulesBelow (func_rule Names) m f
 no_func_rule m f s q lt b = let r = func_rule_from s in absurd (omega (arith, lt, r))
 
 pub func_rule_met : (m : Module) (f : Func) (r : FuncRule) (first : Option Place) → MeetsFuncRulesBelow (func_rule r) m f → IsFound (BreaksFunc m f r) first → met (func_rule r) first ≡ Ok tt → MeetsFuncRulesBelow (suc (func_rule r)) m f
@@ -146,7 +150,7 @@ func_rule_err m f r first (Ok u) other below found same = tt
 func_rule_err m f r first (Err e) other below found same = func_rule_broken m f r first e other below found (sym same)
 
 -- where the other rules are met, the function may be tested for assignment
-pub testable : (m : Module) (f : Func) → IsProper m → Contains m.funcs f → MeetsFuncRulesBelow 18 m f → IsTestable f
+pub testable : (m : Module) (f : Func) → IsProper m → Contains m.funcs f → MeetsFuncRulesBelow (func_rule Assignment) m f → IsTestable f
 testable m f proper inside below = (
   m,
   proper,
@@ -164,7 +168,7 @@ testable m f proper inside below = (
   },
 )
 
-pub valid_func : (m : Module) (f : Func) → MeetsFuncRulesBelow 18 m f → ((p : Place) → BreaksAssignment f p → ⊥) → IsValidFunc m f
+pub valid_func : (m : Module) (f : Func) → MeetsFuncRulesBelow (func_rule Assignment) m f → ((p : Place) → BreaksAssignment f p → ⊥) → IsValidFunc m f
 valid_func m f below assigned = record {
   names = λ p b. below Names p (omega arith) b;
   references = λ p b. below References p (omega arith) b;
@@ -178,7 +182,7 @@ valid_func m f below assigned = record {
   assignment = assigned;
 }
 
-pub unassigned : (m : Module) (f : Func) (e : AssignFault) → MeetsFuncRulesBelow 18 m f → IfUnassigned (λ u. IsFirstPlace (BreaksAssignment f) u.place) e → IfUnassigned (IsWitness f) e → IsFaultOfFunc m f (of_assignment e)
+pub unassigned : (m : Module) (f : Func) (e : AssignFault) → MeetsFuncRulesBelow (func_rule Assignment) m f → IfUnassigned (λ u. IsFirstPlace (BreaksAssignment f) u.place) e → IfUnassigned (IsWitness f) e → IsFaultOfFunc m f (of_assignment e)
 unassigned m f (assign_faults.Unassigned u) below first path = (record { place = first; lower = below }, path)
 unassigned m f assign_faults.NoMemory below first path = tt
 

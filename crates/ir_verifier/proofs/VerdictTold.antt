@@ -6,7 +6,11 @@ use Rattle.oi_base.specs.declared.ids.Place.{Place}
 use Rattle.ir_core.specs.declared.module.Module.{Module}
 use Rattle.ir_core.specs.declared.func.Func.{Func}
 use Rattle.ir_core.specs.Valid.{IsValid, IsValidFunc}
-use Rattle.ir_core.specs.FirstBroken.{ModuleRule, Main, SymbolTwice, TypeNames, Sizes, Initialisers, Totals, Alignments, Target, FuncRule, Names, References, Positions, Entry, Types, Constants, Calls, Phis, Cases, Assignment, BreaksModule, BreaksFunc, IsFuncFault, IsFirstBroken}
+use Rattle.ir_core.specs.declared.rule.ModuleRule.{ModuleRule}
+use Rattle.ir_core.specs.declared.rule.ModuleRule.TheVariants.{Main, SymbolTwice, TypeNames, Sizes, Initialisers, Totals, Alignments, Target}
+use Rattle.ir_core.specs.declared.rule.FuncRule.{FuncRule}
+use Rattle.ir_core.specs.declared.rule.FuncRule.TheVariants.{Names, References, Positions, Entry, Types, Constants, Calls, Phis, Cases, Assignment}
+use Rattle.ir_core.specs.FirstBroken.{BreaksModule, BreaksFunc, IsFuncFault, IsFirstBroken}
 use Rattle.ir_verifier.specs.declared.fault.RuleFault.{RuleFault}
 use Rattle.ir_verifier.specs.declared.fault.RuleFault.TheVariants as faults
 use Rattle.ir_verifier.specs.Verdict.{IfRule, IfUnassigned, IsFirstUnassigned, MeetsModuleRules, IsFaultOfModule, IsFaultOfFunc, IsFaultOfFuncs}

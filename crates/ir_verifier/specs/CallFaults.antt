@@ -3,7 +3,6 @@ use Rattle.std.specs.Prelude.{ℕ, Bool, true, false, not, ◌&&◌, ◌||◌, n
 use Rattle.std.specs.List.{flat_map, list_any, position}
 use Rattle.std.specs.Option.{option_and_then}
 use Rattle.oi_base.specs.declared.ids.Place.{Place}
-use Rattle.oi_base.specs.declared.words.Width.TheVariants.{W32}
 use Rattle.ir_core.specs.declared.ty.IrType.{IrType, Void, Int, Ptr}
 use Rattle.ir_core.specs.declared.module.SymId.{SymId}
 use Rattle.ir_core.specs.declared.module.Declaration.{Declaration}
@@ -15,7 +14,8 @@ use Rattle.ir_core.specs.declared.func.Instr.{Instr}
 use Rattle.ir_core.specs.declared.func.Block.{Block}
 use Rattle.ir_core.specs.declared.func.Func.{Func}
 use Rattle.ir_core.specs.declared.func.Param.{Param}
-use Rattle.ir_core.specs.Stands.{symbol_text}
+use Rattle.ir_core.specs.Operands.{symbol_text}
+use Rattle.ir_core.specs.Types.{is_word}
 use Rattle.module_rules.specs.Faults.{place_if, numbers_of}
 use Rattle.module_rules.specs.SameTypes.{same_width}
 
@@ -53,10 +53,6 @@ abbrev pub callee : Module → SymId → Option Func
 callee m s = option_and_then (slice_get m.funcs) (position (nat_eq s.0) (func_numbers m))
 
 -- ---- calls
-
--- the externals' types: one word or none gives a word or nothing
-abbrev pub is_word : IrType → Bool
-is_word t = same_kind t (Int W32)
 
 abbrev pub is_void : IrType → Bool
 is_void t = same_kind t Void

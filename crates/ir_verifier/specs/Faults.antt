@@ -23,9 +23,10 @@ use Rattle.ir_core.specs.declared.func.Param.{Param}
 use Rattle.ir_core.specs.declared.module.Module.{Module}
 use Rattle.ir_core.specs.Parts.{targets, op_labels}
 use Rattle.ir_core.specs.ValidFunc.{LocalAt}
-use Rattle.module_rules.specs.Faults.{place_if, is_local, step_faults, fits_type, is_bit, is_pointer, count_fits, with_number, with_numbers, numbers_of, global_numbers}
+use Rattle.ir_core.specs.Types.{is_bit, is_pointer}
+use Rattle.module_rules.specs.Faults.{place_if, is_local, step_faults, fits_type, count_fits, with_number, with_numbers, numbers_of, global_numbers}
 use Rattle.module_rules.specs.First.{earliest}
-use Rattle.ir_core.specs.Stands.{Step, Does, Ends, op_operands, end_operands}
+use Rattle.ir_core.specs.Operands.{Step, Does, Ends, op_operands, end_operands}
 
 -- ---- the entry block
 
@@ -135,7 +136,7 @@ abbrev pub is_alloca : Op → Bool
 is_alloca (Alloca t count align) = true
 is_alloca _ = false
 
--- an instruction in the entry block or in another, behind something that is no phi or not
+-- an instruction in the entry block or in another, after something that is no phi or not
 abbrev pub is_misplaced : (entry late : Bool) → Op → Bool
 is_misplaced entry late op = is_phi op && late || is_alloca op && not entry
 

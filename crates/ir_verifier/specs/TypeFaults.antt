@@ -25,20 +25,15 @@ use Rattle.ir_core.specs.declared.func.Instr.{Instr}
 use Rattle.ir_core.specs.declared.func.Block.{Block}
 use Rattle.ir_core.specs.declared.func.Func.{Func}
 use Rattle.ir_core.specs.declared.func.Param.{Param}
-use Rattle.ir_core.specs.Stands.{Step, Does, Ends, op_operands, end_operands}
+use Rattle.ir_core.specs.Operands.{Step, Does, Ends, op_operands, end_operands}
 use Rattle.ir_core.specs.ValidConsts.{const_index, index_of}
 use Rattle.ir_core.specs.ValidOps.{op_result}
 use Rattle.module_rules.specs.Faults.{place_if, step_faults, with_numbers, numbers_of}
-use Rattle.module_rules.specs.Walks.{is_integer, walks}
+use Rattle.ir_core.specs.Types.{is_integer, is_bit, is_pointer, is_scalar}
+use Rattle.module_rules.specs.Walks.{walks}
 use Rattle.ir_verifier.specs.CallFaults.{same_kind}
 
 -- ---- kinds of types
-
--- what a register may hold
-abbrev pub is_scalar : IrType → Bool
-is_scalar (Int w) = true
-is_scalar Ptr = true
-is_scalar _ = false
 
 abbrev pub is_result_type : IrType → Bool
 is_result_type Void = true
@@ -109,8 +104,8 @@ typing_of m f = record { defs = m.types.defs; registers = registers_of f }
 
 abbrev pub const_agrees : Typing → IrType → Const → Bool
 const_agrees s t (consts.Int n) = is_integer t
-const_agrees s t (consts.Address g) = same_kind t Ptr
-const_agrees s t (consts.Gep source g is) = same_kind t Ptr && walks s.defs source (map const_index is)
+const_agrees s t (consts.Address g) = is_pointer t
+const_agrees s t (consts.Gep source g is) = is_pointer t && walks s.defs source (map const_index is)
 const_agrees s t _ = true
 
 abbrev pub value_agrees : Typing → IrType → Operand → Bool
@@ -135,13 +130,13 @@ casts_to c _ _ = false
 abbrev pub fits_op : Typing → Op → Bool
 fits_op s (Bin op t a b) = is_integer t
 fits_op s (Icmp c t a b) = is_scalar t
-fits_op s (Select c a b) = same_kind c.ty (Int W1) && same_kind a.ty b.ty
+fits_op s (Select c a b) = is_bit c.ty && same_kind a.ty b.ty
 fits_op s (Cast c a t) = casts_to c a.ty t
 fits_op s (Alloca t None align) = true
 fits_op s (Alloca t (Some n) align) = is_integer n.ty
-fits_op s (Load t a align) = is_scalar t && same_kind a.ty Ptr
-fits_op s (Store a p align) = same_kind p.ty Ptr
-fits_op s (Gep t a is) = same_kind a.ty Ptr && walks s.defs t (map index_of is)
+fits_op s (Load t a align) = is_scalar t && is_pointer a.ty
+fits_op s (Store a p align) = is_pointer p.ty
+fits_op s (Gep t a is) = is_pointer a.ty && walks s.defs t (map index_of is)
 fits_op s (Phi t es) = is_scalar t
 fits_op s (Call t g as') = is_result_type t
 
@@ -149,7 +144,7 @@ abbrev pub fits_end : IrType → End → Bool
 fits_end result (Ret None) = same_kind result Void
 fits_end result (Ret (Some a)) = same_kind a.ty result
 fits_end result (Br b) = true
-fits_end result (Cond c t e) = same_kind c.ty (Int W1)
+fits_end result (Cond c t e) = is_bit c.ty
 fits_end result (Switch a other cases) = is_integer a.ty && list_all (λ (c : SwitchCase). same_kind c.value.ty a.ty) cases
 fits_end result Unreachable = true
 

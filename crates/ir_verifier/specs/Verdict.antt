@@ -3,7 +3,10 @@ use Rattle.std.specs.Prelude.{◌≡◌, ◌≢◌, ℕ, ◌<◌, Option, Some, 
 use Rattle.oi_base.specs.declared.ids.Place.{Place}
 use Rattle.ir_core.specs.declared.module.Module.{Module}
 use Rattle.ir_core.specs.declared.func.Func.{Func}
-use Rattle.ir_core.specs.FirstBroken.{ModuleRule, FuncRule, Assignment, module_rule, func_rule, BreaksModule, BreaksFunc, IsFirstPlace, IsModuleFault, IsFuncFault}
+use Rattle.ir_core.specs.declared.rule.ModuleRule.{ModuleRule}
+use Rattle.ir_core.specs.declared.rule.FuncRule.{FuncRule}
+use Rattle.ir_core.specs.declared.rule.FuncRule.TheVariants.{Assignment}
+use Rattle.ir_core.specs.FirstBroken.{module_rule, func_rule, BreaksModule, BreaksFunc, IsFirstPlace, IsModuleFault, IsFuncFault}
 use Rattle.ir_assigned.specs.declared.fault.Unassigned.{Unassigned}
 use Rattle.ir_assigned.specs.declared.fault.AssignFault.{AssignFault}
 use Rattle.ir_assigned.specs.declared.fault.AssignFault.TheVariants as assign_faults

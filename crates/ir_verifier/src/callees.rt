@@ -1,7 +1,7 @@
 ghost use Rattle.std.specs.Prelude.{◌≡◌, map, nat_eq, IfOk, length};
 ghost use Rattle.std.specs.List.{list_any};
 ghost use Rattle.std.specs.Option.{option_copied};
-ghost use Rattle.ir_core.specs.Stands.{symbol_text};
+ghost use Rattle.ir_core.specs.Operands.{symbol_text};
 ghost use Rattle.module_rules.specs.Faults.{numbers_of};
 ghost use Rattle.ir_verifier.specs.CallFaults.{func_number, declared_number, declared_numbers, callee};
 

@@ -3,13 +3,13 @@ ghost use Rattle.oi_base.specs.declared.ids.Place as places;
 ghost use Rattle.ir_core.specs.ValidModule.{BreaksSymbolTwice};
 ghost use Rattle.ir_core.specs.ValidOps.{BreaksTypes, BreaksCalls};
 ghost use Rattle.module_rules.specs.First.{earliest, IsFound};
-ghost use Rattle.ir_verifier.specs.CallFaults.{is_word, is_void, is_one_word, is_none, is_putchar, is_getchar, is_exit, fits_external, fits_func, callee, fits_callee, op_calls_well, block_call_faults, call_faults};
+ghost use Rattle.ir_verifier.specs.CallFaults.{is_void, is_one_word, is_none, is_putchar, is_getchar, is_exit, fits_external, fits_func, callee, fits_callee, op_calls_well, block_call_faults, call_faults};
 
 use crate::callees::Callees;
 use crate::kinds::{same_kind, same_kinds};
 use ir_core::{Block, Func, IrType, Op, SymId, TypedOperand};
 use module_rules::earlier_if;
-use oi_base::{Place, Width};
+use oi_base::Place;
 
 /// The first call that names no function that the module defines, and no declared external, of its types. Its condition
 /// is that no symbol of the module is introduced twice, and that the types of the function agree.
@@ -74,13 +74,13 @@ fn fits_external(name: &[u8], t: &IrType, arguments: &[TypedOperand]) -> bool
 fn is_putchar(name: &[u8], t: &IrType, arguments: &[TypedOperand]) -> bool
     ensures { result ≡ is_putchar name.now t.now arguments.now }
 {
-    name == b"putchar".as_slice() && is_word(t) && is_one_word(arguments)
+    name == b"putchar".as_slice() && t.is_word() && is_one_word(arguments)
 }
 
 fn is_getchar(name: &[u8], t: &IrType, arguments: &[TypedOperand]) -> bool
     ensures { result ≡ is_getchar name.now t.now arguments.now }
 {
-    name == b"getchar".as_slice() && is_word(t) && is_none(arguments)
+    name == b"getchar".as_slice() && t.is_word() && is_none(arguments)
 }
 
 fn is_exit(name: &[u8], t: &IrType, arguments: &[TypedOperand]) -> bool
@@ -101,14 +101,8 @@ fn is_none(arguments: &[TypedOperand]) -> bool
     arguments.is_empty()
 }
 
-fn is_word(t: &IrType) -> bool
-    ensures { result ≡ is_word t.now }
-{
-    same_kind(t, &IrType::Int(Width::W32))
-}
-
 fn is_one_word(arguments: &[TypedOperand]) -> bool
     ensures { result ≡ is_one_word arguments.now }
 {
-    arguments.len() == 1 && is_word(&arguments[0].ty)
+    arguments.len() == 1 && arguments[0].ty.is_word()
 }

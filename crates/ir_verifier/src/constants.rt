@@ -1,16 +1,16 @@
 ghost use Rattle.std.specs.Prelude.{◌≡◌, not, None, map, pos};
 ghost use Rattle.oi_base.specs.Words.{modulus};
 ghost use Rattle.std.specs.List.{list_all};
-ghost use Rattle.ir_core.specs.Stands.{Does, typed};
+ghost use Rattle.ir_core.specs.Operands.{Does, typed};
 ghost use Rattle.ir_core.specs.ValidOps.{BreaksConstants};
 ghost use Rattle.module_rules.specs.First.{earliest, IsFound};
-ghost use Rattle.module_rules.specs.Faults.{block_faults, fits, fits_type, is_bit, is_pointer, count_fits};
+ghost use Rattle.module_rules.specs.Faults.{block_faults, fits, fits_type, count_fits};
 ghost use Rattle.ir_verifier.specs.Faults.{const_fits, value_fits, operand_fits, op_count_fits, op_fits, end_fits, step_fits, constant_faults};
 
 use ir_core::{
     Block, Const, End, Func, IrType, Op, Operand, Pair, SwitchCase, TypedCount, TypedOperand,
 };
-use module_rules::{count_fits, counts_fit, earlier, fits_type, is_bit, is_pointer};
+use module_rules::{count_fits, counts_fit, earlier, fits_type};
 use oi_base::{Place, Width};
 
 #[tactic(auto, using(crate::proofs::ConstantLaws::constants_found))]
@@ -126,8 +126,8 @@ fn const_fits(t: &IrType, constant: &Const) -> bool
 {
     match constant {
         Const::Int(number) => fits_type(t, *number),
-        Const::Bool(_) => is_bit(t),
-        Const::Null => is_pointer(t),
+        Const::Bool(_) => t.is_bit(),
+        Const::Null => t.is_pointer(),
         Const::Gep(_, _, indices) => counts_fit(indices.as_slice()),
         _ => true,
     }

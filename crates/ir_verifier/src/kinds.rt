@@ -1,16 +1,8 @@
 ghost use Rattle.std.specs.Prelude.{◌≡◌};
 ghost use Rattle.ir_verifier.specs.CallFaults.{same_kind, same_kinds};
-ghost use Rattle.ir_verifier.specs.TypeFaults.{is_scalar};
 
 use ir_core::{IrType, Param, TypedOperand};
 use module_rules::same_width;
-
-/// Whether it is a type of registers.
-pub fn is_scalar(t: &IrType) -> bool
-    ensures { result ≡ is_scalar t.now }
-{
-    matches!(t, IrType::Int(_) | IrType::Ptr)
-}
 
 /// Whether both types are `void`, both `ptr`, or both integers of one width.
 pub fn same_kind(t: &IrType, u: &IrType) -> bool

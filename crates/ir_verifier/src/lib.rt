@@ -20,8 +20,8 @@ mod references;
 mod registers;
 mod scope;
 mod types;
-mod verifying;
+mod verdict;
 
 pub use fault::RuleFault;
 pub use laws::a_module_has_one_verdict;
-pub use verifying::verify;
+pub use verdict::verify;

@@ -24,7 +24,7 @@ pub fn gep_offset(m: &Module, source: &IrType, indices: &[TypedCount]) -> u32
     first.wrapping_add(distance_into(m, source, &indices[1..]))
 }
 
-/// How far the indices behind the first lead into a type.
+/// How far the indices after the first lead into a type.
 fn distance_into(m: &Module, source: &IrType, indices: &[TypedCount]) -> u32
     requires laid { IsLaid m.now.types.defs source.now }
     requires small { IsTooLarge m.now.types.defs source.now → ⊥ }

@@ -7,7 +7,7 @@ use ir_core::{Block, Func, Op};
 use module_rules::earlier;
 use oi_base::Place;
 
-/// The first phi behind something else in its block, or alloca outside the entry block.
+/// The first phi after something else in its block, or alloca outside the entry block.
 #[tactic(auto, using(crate::proofs::PositionLaws::positions_found))]
 pub fn first_break(f: &Func) -> Option<Place>
     ensures found { IsFound (BreaksPositions f.now) result }

@@ -2,7 +2,7 @@ ghost use Rattle.std.specs.Prelude.{◌≡◌, not, None, map, IfOk};
 ghost use Rattle.std.specs.List.{list_all};
 ghost use Rattle.ir_core.specs.declared.module.Module as modules;
 ghost use Rattle.ir_core.specs.Proper.{IsProperFunc};
-ghost use Rattle.ir_core.specs.Stands.{typed};
+ghost use Rattle.ir_core.specs.Operands.{typed};
 ghost use Rattle.ir_core.specs.ValidFunc.{BreaksReferences};
 ghost use Rattle.module_rules.specs.First.{earliest, IsFound};
 ghost use Rattle.module_rules.specs.Faults.{block_faults, global_numbers};

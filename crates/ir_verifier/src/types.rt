@@ -1,22 +1,20 @@
 ghost use Rattle.std.specs.Prelude.{◌≡◌, not, None, map, IfOk};
-ghost use Rattle.oi_base.specs.Words.{bits};
-ghost use Rattle.oi_base.specs.declared.words.Width.TheVariants.{W1};
 ghost use Rattle.ir_core.specs.declared.ty.IrType.{Int, Ptr};
 ghost use Rattle.ir_verifier.specs.CallFaults.{same_kind};
 ghost use Rattle.std.specs.List.{list_all};
-ghost use Rattle.ir_core.specs.Stands.{typed};
+ghost use Rattle.ir_core.specs.Operands.{typed};
 ghost use Rattle.ir_core.specs.ValidOps.{BreaksTypes};
 ghost use Rattle.module_rules.specs.First.{earliest, IsFound};
 ghost use Rattle.module_rules.specs.Faults.{block_faults};
 ghost use Rattle.ir_verifier.specs.TypeFaults.{is_result_type, is_good_param, has_good_types, typing_of, const_agrees, value_agrees, operand_agrees, casts, casts_to, op_agrees, end_agrees, step_agrees, type_faults};
 
-use crate::kinds::{is_scalar, same_kind};
+use crate::kinds::same_kind;
 use crate::registers::Registers;
 use ir_core::{
     Block, CastOp, Const, End, Func, IrType, Module, Op, Operand, Pair, Param, SwitchCase,
     TypeDefs, TypedOperand,
 };
-use module_rules::{const_walks, earlier_if, is_integer, walks};
+use module_rules::{const_walks, earlier_if, walks};
 use oi_base::{NoMemory, Place, Width};
 use std::alloc::Global;
 use std::marker::Model;
@@ -69,7 +67,7 @@ fn are_good_params(params: &[Param]) -> bool
     ensures { result ≡ list_all is_good_param params.now }
 {
     for param in params {
-        if !is_scalar(&param.ty) {
+        if !param.ty.is_scalar() {
             return false;
         }
     }
@@ -115,29 +113,29 @@ impl<'a> Typing<'a> {
         ensures { result ≡ op_agrees self.now op.now }
     {
         match op {
-            Op::Bin(_, t, a, b) => self.agrees(t, a) && self.agrees(t, b) && is_integer(t),
-            Op::Icmp(_, t, a, b) => self.agrees(t, a) && self.agrees(t, b) && is_scalar(t),
+            Op::Bin(_, t, a, b) => self.agrees(t, a) && self.agrees(t, b) && t.is_integer(),
+            Op::Icmp(_, t, a, b) => self.agrees(t, a) && self.agrees(t, b) && t.is_scalar(),
             Op::Select(c, a, b) => {
                 self.operand_agrees(c)
                     && self.operand_agrees(a)
                     && self.operand_agrees(b)
-                    && is_bit(&c.ty)
+                    && c.ty.is_bit()
                     && same_kind(&a.ty, &b.ty)
             }
             Op::Cast(cast, a, t) => self.operand_agrees(a) && casts_to(*cast, &a.ty, t),
             Op::Alloca(_, None, _) => true,
-            Op::Alloca(_, Some(count), _) => is_integer(&count.ty),
-            Op::Load(t, a, _) => self.operand_agrees(a) && is_scalar(t) && is_pointer(&a.ty),
+            Op::Alloca(_, Some(count), _) => count.ty.is_integer(),
+            Op::Load(t, a, _) => self.operand_agrees(a) && t.is_scalar() && a.ty.is_pointer(),
             Op::Store(a, p, _) => {
-                self.operand_agrees(a) && self.operand_agrees(p) && is_pointer(&p.ty)
+                self.operand_agrees(a) && self.operand_agrees(p) && p.ty.is_pointer()
             }
             Op::Gep(t, a, indices) => {
                 self.operand_agrees(a)
                     && self.all_agree(indices.as_slice())
-                    && is_pointer(&a.ty)
+                    && a.ty.is_pointer()
                     && walks(self.defs, t, indices.as_slice())
             }
-            Op::Phi(t, entries) => self.entries_agree(t, entries.as_slice()) && is_scalar(t),
+            Op::Phi(t, entries) => self.entries_agree(t, entries.as_slice()) && t.is_scalar(),
             Op::Call(t, _, arguments) => self.all_agree(arguments.as_slice()) && is_result_type(t),
         }
     }
@@ -149,11 +147,11 @@ impl<'a> Typing<'a> {
             End::Br(_) | End::Unreachable => true,
             End::Ret(None) => same_kind(result_type, &IrType::Void),
             End::Ret(Some(a)) => self.operand_agrees(a) && same_kind(&a.ty, result_type),
-            End::Cond(c, _, _) => self.operand_agrees(c) && is_bit(&c.ty),
+            End::Cond(c, _, _) => self.operand_agrees(c) && c.ty.is_bit(),
             End::Switch(a, _, cases) => {
                 self.operand_agrees(a)
                     && self.cases_agree(cases.as_slice())
-                    && is_integer(&a.ty)
+                    && a.ty.is_integer()
                     && have_type(cases.as_slice(), &a.ty)
             }
         }
@@ -203,7 +201,7 @@ impl<'a> Typing<'a> {
     fn agrees(&self, t: &IrType, value: &Operand) -> bool
         ensures { result ≡ operand_agrees self.now (typed t.now value.now) }
     {
-        is_scalar(t) && self.value_agrees(t, value)
+        t.is_scalar() && self.value_agrees(t, value)
     }
 
     fn value_agrees(&self, t: &IrType, value: &Operand) -> bool
@@ -219,10 +217,10 @@ impl<'a> Typing<'a> {
         ensures { result ≡ const_agrees self.now t.now constant.now }
     {
         match constant {
-            Const::Int(_) => is_integer(t),
-            Const::Address(_) => is_pointer(t),
+            Const::Int(_) => t.is_integer(),
+            Const::Address(_) => t.is_pointer(),
             Const::Gep(source, _, indices) => {
-                is_pointer(t) && const_walks(self.defs, source, indices.as_slice())
+                t.is_pointer() && const_walks(self.defs, source, indices.as_slice())
             }
             _ => true,
         }
@@ -240,18 +238,6 @@ fn have_type(cases: &[SwitchCase], t: &IrType) -> bool
     true
 }
 
-fn is_bit(t: &IrType) -> bool
-    ensures { result ≡ same_kind t.now (Int W1) }
-{
-    same_kind(t, &IrType::Int(Width::W1))
-}
-
-fn is_pointer(t: &IrType) -> bool
-    ensures { result ≡ same_kind t.now Ptr }
-{
-    same_kind(t, &IrType::Ptr)
-}
-
 /// Whether a conversion leads from the one type to the other.
 fn casts_to(cast: CastOp, from: &IrType, to: &IrType) -> bool
     ensures { result ≡ casts_to cast from.now to.now }
@@ -266,18 +252,7 @@ fn casts(cast: CastOp, from: Width, to: Width) -> bool
     ensures { result ≡ casts cast from to }
 {
     match cast {
-        CastOp::Zext | CastOp::Sext => bits(from) < bits(to),
-        CastOp::Trunc => bits(to) < bits(from),
-    }
-}
-
-fn bits(w: Width) -> u32
-    ensures { result ≡ bits w }
-{
-    match w {
-        Width::W1 => 1,
-        Width::W8 => 8,
-        Width::W16 => 16,
-        Width::W32 => 32,
+        CastOp::Zext | CastOp::Sext => from.bits() < to.bits(),
+        CastOp::Trunc => to.bits() < from.bits(),
     }
 }

@@ -15,7 +15,7 @@ use Rattle.ir_core.specs.declared.func.Func.{Func}
 use Rattle.ir_core.specs.Formed.{IsAlign}
 use Rattle.ir_core.specs.Parts.{instrs}
 use Rattle.ir_core.specs.Sizes.{align}
-use Rattle.ir_core.specs.Stands.{AtInstr, AtGlobal}
+use Rattle.ir_core.specs.Operands.{AtInstr, AtGlobal}
 use Rattle.ir_core.specs.ValidTypes.{IsGoodAlign, PromisesWell, BreaksAlignments}
 use Rattle.ir_core.proofs.Lists.{Has, contains}
 use Rattle.module_rules.specs.First.{earliest, IsFound}

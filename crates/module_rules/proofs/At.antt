@@ -7,7 +7,7 @@ use Rattle.std.proofs.lemmas.List.{append-nil}
 use Rattle.oi_base.specs.declared.ids.Place.{Place}
 use Rattle.ir_core.specs.declared.func.Instr.{Instr}
 use Rattle.ir_core.specs.declared.func.Block.{Block}
-use Rattle.ir_core.specs.Stands.{Step, Does, Ends, block_steps, place_of}
+use Rattle.ir_core.specs.Operands.{Step, Does, Ends, block_steps, place_of}
 use Rattle.ir_core.proofs.Lists.{Has, contains}
 use Rattle.module_rules.specs.First.{earliest, IsFound}
 use Rattle.module_rules.specs.Faults.{place_if, block_faults}

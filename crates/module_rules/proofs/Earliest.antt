@@ -3,7 +3,7 @@ use Rattle.std.proofs.Common.{◌≡◌, ◌⊎◌, inl, inr, refl, sym, ap, ◌
 use Rattle.std.proofs.lemmas.Bool.Decides.{nat_tests}
 use Rattle.oi_base.specs.declared.ids.Place.{Place}
 use Rattle.ir_core.specs.Parts.{listed}
-use Rattle.ir_core.specs.Stands.{is_up_to}
+use Rattle.ir_core.specs.Operands.{is_up_to}
 use Rattle.ir_core.specs.FirstBroken.{IsFirstPlace}
 use Rattle.ir_core.proofs.Lists.{Has}
 use Rattle.module_rules.specs.First.{earlier, earliest, IsFound}
@@ -71,7 +71,7 @@ found Breaks (q ∷ ps) sound all = let l = least q ps in subst (IsFound Breaks)
 
 -- ---- one more place
 
--- a rule that is broken where another is, and at r, and elsewhere behind r alone
+-- a rule that is broken where another is, and at r, and elsewhere after r alone
 pub found_more : (P Q : Place → Type 0) (o : Option Place) (r : Place) → IsFound P o → ((p : Place) → P p → Q p) → Q r → ((p : Place) → Q p → P p ⊎ (is_up_to r p ≡ true)) → IsFound Q (earlier o r)
 found_more P Q None r f up here only = record { broken = here; first = λ p q. of_only p (only p q) }
   where
@@ -80,16 +80,16 @@ found_more P Q None r f up here only = record { broken = here; first = λ p q. o
     of_only p (inr h) = h
 found_more P Q (Some x) r f up here only = by_test (is_up_to x r) refl
   where
-    behind : (p : Place) → is_up_to x r ≡ true → P p ⊎ (is_up_to r p ≡ true) → IsTrue (is_up_to x p)
-    behind p t (inl h) = f.first p h
-    behind p t (inr h) = up_to_trans x r p t h
+    after : (p : Place) → is_up_to x r ≡ true → P p ⊎ (is_up_to r p ≡ true) → IsTrue (is_up_to x p)
+    after p t (inl h) = f.first p h
+    after p t (inr h) = up_to_trans x r p t h
 
     before : (p : Place) → is_up_to x r ≡ false → P p ⊎ (is_up_to r p ≡ true) → IsTrue (is_up_to r p)
     before p t (inl h) = up_to_trans r x p (up_to_total x r t) (f.first p h)
     before p t (inr h) = h
 
     by_test : (t : Bool) → is_up_to x r ≡ t → IsFound Q (if t then Some x else Some r)
-    by_test true t = record { broken = up x f.broken; first = λ p q. behind p t (only p q) }
+    by_test true t = record { broken = up x f.broken; first = λ p q. after p t (only p q) }
     by_test false t = record { broken = here; first = λ p q. before p t (only p q) }
 
 -- a rule that is broken at the same places
@@ -97,7 +97,7 @@ pub found_same : (P Q : Place → Type 0) (o : Option Place) → IsFound P o →
 found_same P Q None f up down = λ p q. f p (down p q)
 found_same P Q (Some x) f up down = record { broken = up x f.broken; first = λ p q. f.first p (down p q) }
 
--- a rule that is broken where another is, and elsewhere behind r alone, where r makes no difference
+-- a rule that is broken where another is, and elsewhere after r alone, where r makes no difference
 pub found_beside : (P Q : Place → Type 0) (o : Option Place) (r : Place) → IsFound P o → earlier o r ≡ o → ((p : Place) → P p → Q p) → ((p : Place) → Q p → P p ⊎ (is_up_to r p ≡ true)) → IsFound Q o
 found_beside P Q None r f same up only = absurd (let clash : Some r ≡ None = same in cc)
 found_beside P Q (Some x) r f same up only = record { broken = up x f.broken; first = λ p q. of_only p (only p q) }

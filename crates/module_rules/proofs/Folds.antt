@@ -5,7 +5,7 @@ use Rattle.std.proofs.lemmas.List.Sums.{fold-append}
 use Rattle.std.proofs.lemmas.List.{append_assoc}
 use Rattle.std.specs.List.{flat_map}
 
--- an element, and those behind it
+-- an element, and those after it
 pub cut : {A : Type 0} (as' bs : List A) (k : ℕ) (a : A) → as' ≡ bs → k < length as' → a ≡ slice_index_or as' k a → drop k bs ≡ a ∷ drop (k + 1) bs
 cut as' bs k a same within is =
     subst (λ zs. drop k zs ≡ a ∷ drop (k + 1) zs) same (drop-cons as' k a within ∙ ap (λ z. z ∷ drop (suc k) as') (sym is) ∙ ap (λ (n : ℕ). a ∷ drop n as') next_one)

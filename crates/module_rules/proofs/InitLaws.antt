@@ -15,7 +15,8 @@ use Rattle.ir_core.specs.declared.constant.Const as consts
 use Rattle.ir_core.specs.declared.constant.TypedCount.{TypedCount}
 use Rattle.ir_core.specs.ValidConsts.{FitsType, const_index, plain, HasType, AreItems, AreFields, BreaksInitialisers}
 use Rattle.module_rules.specs.First.{earliest, IsFound}
-use Rattle.module_rules.specs.Faults.{global_numbers, is_pointer, count_fits}
+use Rattle.ir_core.specs.Types.{is_pointer}
+use Rattle.module_rules.specs.Faults.{global_numbers, count_fits}
 use Rattle.module_rules.specs.Walks.{walks}
 use Rattle.module_rules.specs.SameTypes.{same_type}
 use Rattle.module_rules.specs.InitFaults.{is_byte, is_string, is_array_of, is_struct_of, is_among, has_type, are_items, are_fields, has_its_type, init_faults}

@@ -6,7 +6,8 @@ use Rattle.oi_base.specs.declared.words.Width.TheVariants.{W1, W8, W16, W32}
 use Rattle.ir_core.specs.declared.ty.IrType.{IrType, Void, Int, Ptr, Array', Struct', Named}
 use Rattle.ir_core.specs.declared.constant.TypedCount.{TypedCount}
 use Rattle.ir_core.specs.ValidConsts.{Fits, FitsType}
-use Rattle.module_rules.specs.Faults.{fits, fits_type, is_bit, is_pointer, count_fits}
+use Rattle.ir_core.specs.Types.{is_bit, is_pointer}
+use Rattle.module_rules.specs.Faults.{fits, fits_type, count_fits}
 use Rattle.std.specs.Bool.{Decides}
 use Rattle.module_rules.proofs.Decided.{never}
 

@@ -14,6 +14,7 @@ mod InitLaws
 mod StructNames
 mod UseLaws
 mod Reaching
+mod TypeGraph
 mod TypeNameLaws
 mod InParts
 mod MainLaws

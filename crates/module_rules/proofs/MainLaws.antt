@@ -12,11 +12,11 @@ use Rattle.ir_core.specs.declared.module.Module.{Module}
 use Rattle.ir_core.specs.declared.func.Func.{Func}
 use Rattle.ir_core.specs.declared.func.Param.{Param}
 use Rattle.ir_core.specs.Source.{is_main}
-use Rattle.ir_core.specs.Stands.{start, is_up_to, symbol_text}
+use Rattle.ir_core.specs.Operands.{start, is_up_to, symbol_text}
 use Rattle.ir_core.specs.ValidModule.{BreaksMain}
 use Rattle.module_rules.specs.First.{IsFound}
 use Rattle.module_rules.specs.HasMain.{is_empty, is_good_main}
-use Rattle.module_rules.specs.Walks.{is_word}
+use Rattle.ir_core.specs.Types.{is_word}
 use Rattle.module_rules.proofs.Decided.{never, false_is_not_true}
 use Rattle.module_rules.proofs.Earliest.{up_to_itself}
 use Rattle.module_rules.proofs.InParts.{some_decides}

@@ -13,7 +13,7 @@ use Rattle.oi_base.specs.declared.ids.Place.{Place}
 use Rattle.ir_core.specs.declared.func.Func.{Func}
 use Rattle.ir_core.specs.declared.module.GlobalVar.{GlobalVar}
 use Rattle.ir_core.specs.declared.module.Module.{Module}
-use Rattle.ir_core.specs.Stands.{is_up_to}
+use Rattle.ir_core.specs.Operands.{is_up_to}
 use Rattle.ir_core.specs.FirstBroken.{IsFirstPlace}
 use Rattle.ir_core.specs.ValidModule.{Introduced, introduced_globals, introduced_funcs, named}
 use Rattle.ir_core.proofs.Lists.{Has, contains}
@@ -58,7 +58,7 @@ module _ {A : Type 0} (test : A → Bool) (f : A → ℕ) where
 
 -- ---- names in the order of their places
 
--- a place that is not less stands behind
+-- a place that is not less stands after
 not_less : (l c b l' c' b' : ℕ) → is_lt (ordering_then (ordering_then (nat_cmp l' l) (nat_cmp c' c)) (nat_cmp b' b)) ≡ false → (nat_lt l l' || (nat_eq l l' && nat_le c c')) ≡ true
 not_less l c b l' c' b' h = ⊎_elim
     (λ (lt : l' < l). let test : nat_lt l' l ≡ true = grind (arith, nat_tests) in absurd (let less : is_lt (ordering_then (ordering_then (nat_cmp l' l) (nat_cmp c' c)) (nat_cmp b' b)) ≡ true = rw test refl in false_is_not_true (sym h ∙ less)))
@@ -107,8 +107,8 @@ module _ (names : List Name) (order : AreInOrder names) (i : ℕ) (x : Name) (wi
       let front = ap (sum_by bytes) (all_pass (λ (n : Name). is_up_to n.place x.place) bytes (take (i + 1) names) in_front) in
       omega (arith, parts, front)
 
-  behind : (q : Place) → is_up_to x.place q ≡ false → All (λ (n : Name). is_up_to n.place q ≡ false) (drop i names)
-  behind q before k d lt =
+  after : (q : Place) → is_up_to x.place q ≡ false → All (λ (n : Name). is_up_to n.place q ≡ false) (drop i names)
+  after q before k d lt =
       let long = length-drop i names in
       subst (λ (n : Name). is_up_to n.place q ≡ false) (sym (get_or-drop i names k d))
       (false_from_ne_true (is_up_to (slice_index_or names (i + k) d).place q)
@@ -119,7 +119,7 @@ module _ (names : List Name) (order : AreInOrder names) (i : ℕ) (x : Name) (wi
   before_it : (q : Place) → is_up_to x.place q ≡ false → bytes_up_to names q ≤ sum_by bytes (take i names)
   before_it q before =
       let parts = in_parts (λ (n : Name). is_up_to n.place q) bytes i names in
-      let back = ap (sum_by bytes) (none_pass (λ (n : Name). is_up_to n.place q) bytes (drop i names) (behind q before)) in
+      let back = ap (sum_by bytes) (none_pass (λ (n : Name). is_up_to n.place q) bytes (drop i names) (after q before)) in
       let front = part_of (λ (n : Name). is_up_to n.place q) bytes (take i names) in
       omega (arith, parts, back, front)
 

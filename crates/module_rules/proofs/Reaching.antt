@@ -1,6 +1,6 @@
 -- Sets of names to which a name leads, and that those which are closed have all names on its cycles.
-use Rattle.std.proofs.Common.{◌≡◌, ◌⊎◌, inl, inr, refl, sym, ap, ◌∙◌, subst, ⊎_elim, Bool, true, false, if◌then◌else◌, ◌||◌, nat_eq, nat_le, ℕ, ◌+◌, ◌<◌, ◌≤◌, ◌==◌, List, [], ◌∷◌, ◌++◌, map, length, Option, Some, None, slice_get, Contains, arith}
-use Rattle.std.specs.List.{flat_map, list_any, list_all, IsDistinct, AllByRecursion}
+use Rattle.std.proofs.Common.{◌≡◌, ◌⊎◌, inl, inr, refl, sym, ap, ◌∙◌, subst, ⊎_elim, Bool, true, false, if◌then◌else◌, ◌||◌, nat_eq, ℕ, ◌+◌, ◌<◌, ◌≤◌, ◌==◌, List, [], ◌∷◌, ◌++◌, map, length, Option, Some, None, slice_get, Contains, arith}
+use Rattle.std.specs.List.{flat_map, list_any, IsDistinct, AllByRecursion}
 use Rattle.std.specs.Bool.{Decides}
 use Rattle.std.proofs.lemmas.Bool.{cases_lt}
 use Rattle.std.proofs.lemmas.Bool.Decides.{nat_tests}
@@ -19,11 +19,10 @@ use Rattle.ir_core.specs.Proper.{IsProper}
 use Rattle.ir_core.proofs.Lists.{Has, has_left, has_right, has_part, has_at, at_has, contains, element}
 use Rattle.ir_core.proofs.Names.{defined}
 use Rattle.module_rules.specs.Faults.{with_number, with_numbers}
-use Rattle.module_rules.specs.Cycles.{rank_of, NeverRise, number_if, of_rank, held_names, held, HoldsWithin, IsClosedUpTo, AreReached}
+use Rattle.module_rules.specs.Cycles.{held_names}
 use Rattle.module_rules.proofs.Faulty.{has}
-use Rattle.module_rules.proofs.Decided.{false_is_not_true, passes}
 use Rattle.module_rules.proofs.Listing.{one_at}
-use Rattle.module_rules.proofs.Sets.{number_decides, in_numbers, numbers_in, has_made}
+use Rattle.module_rules.proofs.Sets.{number_decides, in_numbers, numbers_in, has_mapped, mapped_has}
 use Rattle.module_rules.proofs.Distinct.{at_in_first}
 
 -- ---- sets of numbers that grow
@@ -86,106 +85,102 @@ leads_on : (defs : List TypeDef) (z x y : TypeName) (between : List TypeName) �
 leads_on defs z x y [] l h = (l, h)
 leads_on defs z x y (w ∷ ws) l h = (l.0, leads_on defs w x y ws l.1 h)
 
-module _ (ranks : List ℕ) (rank : ℕ) where
-  one_of : (t : Bool) (n m : ℕ) → Has (number_if t n) m → (t ≡ true) × (n ≡ m)
-  one_of true n m (inl e) = (refl, e)
-  one_of true n m (inr h) = absurd h
-  one_of false n m h = absurd h
+-- the numbers of the names that a name holds
+abbrev pub held : List TypeDef → ℕ → List ℕ
+held defs x = map (λ (y : TypeName). y.0) (held_names (definition defs (name x)))
 
-  made_of : (t : Bool) (n : ℕ) → t ≡ true → Has (number_if t n) n
-  made_of true n e = inl refl
-  made_of false n e = absurd (false_is_not_true e)
+-- all names that a name holds are in the set
+abbrev pub HoldsWithin : List TypeDef → List ℕ → ℕ → Type 0
+HoldsWithin defs ns x = (y : TypeName) → Holds defs (name x) y → Contains ns y.0
 
-  abbrev number_of : TypeName → List ℕ
-  number_of y = number_if (rank_of ranks y == rank) y.0
+-- all names that the first n of a set hold are in it
+abbrev pub IsClosedUpTo : List TypeDef → List ℕ → ℕ → Type 0
+IsClosedUpTo defs ns n = (k y : ℕ) → k < n → slice_get ns k ≡ Some y → HoldsWithin defs ns y
 
-  in_rank : (names : List TypeName) (n : ℕ) → Has (of_rank ranks rank names) n → (y : TypeName) × Has names y × (rank_of ranks y ≡ rank) × (y.0 ≡ n)
-  in_rank names n h =
-      let r = has_made number_of names n h in
-      let o = one_of (rank_of ranks r.0 == rank) r.0.0 n r.2 in
-      (r.0, r.1, (let t : (rank_of ranks r.0 == rank) ≡ true = o.0 in grind (arith, nat_tests)), o.1)
+-- a set of names to which a name leads, all different and below a bound
+pub record AreReached (defs : List TypeDef) (bound x : ℕ) (ns : List ℕ) : Type 0 where
+  pub lead : (y : ℕ) → Contains ns y → (between : List TypeName) × Leads defs (name x) between (name y)
+  pub differ : IsDistinct nat_eq ns
+  pub below : (y : ℕ) → Contains ns y → y < bound
 
-  rank_in : (names : List TypeName) (y : TypeName) → Has names y → rank_of ranks y ≡ rank → Has (of_rank ranks rank names) y.0
-  rank_in names y h e = has_part number_of names y y.0 h (made_of (rank_of ranks y == rank) y.0 (let s = e in grind (arith, nat_tests)))
+module _ (defs : List TypeDef) where
+  held_holds : (x n : ℕ) → Has (held defs x) n → (y : TypeName) × Holds defs (name x) y × (y.0 ≡ n)
+  held_holds x n h = by_definition (definition defs (name x)) refl h
+    where
+      by_definition : (o : Option TypeDef) → definition defs (name x) ≡ o → Has (map (λ (y : TypeName). y.0) (held_names o)) n → (y : TypeName) × Holds defs (name x) y × (y.0 ≡ n)
+      by_definition None e g = absurd g
+      by_definition (Some d) e g = let r = has_mapped (λ (y : TypeName). y.0) (names_in_type d.ty) n g in (r.0, (d, e, contains (names_in_type d.ty) r.0 r.1), r.2)
 
-  module _ (defs : List TypeDef) where
-    held_holds : (x n : ℕ) → Has (held ranks rank defs x) n → (y : TypeName) × Holds defs (name x) y × (rank_of ranks y ≡ rank) × (y.0 ≡ n)
-    held_holds x n h = by_definition (definition defs (name x)) refl h
-      where
-        by_definition : (o : Option TypeDef) → definition defs (name x) ≡ o → Has (of_rank ranks rank (held_names o)) n → (y : TypeName) × Holds defs (name x) y × (rank_of ranks y ≡ rank) × (y.0 ≡ n)
-        by_definition None e g = absurd g
-        by_definition (Some d) e g = let r = in_rank (names_in_type d.ty) n g in (r.0, (d, e, contains (names_in_type d.ty) r.0 r.1), r.2, r.3)
+  holds_held : (x : ℕ) (y : TypeName) → Holds defs (name x) y → Has (held defs x) y.0
+  holds_held x y h =
+      subst (λ (o : Option TypeDef). Has (map (λ (z : TypeName). z.0) (held_names o)) y.0) (sym h.1)
+      (mapped_has (λ (z : TypeName). z.0) (names_in_type h.0.ty) y (has (names_in_type h.0.ty) y h.2))
 
-    holds_held : (x : ℕ) (y : TypeName) → Holds defs (name x) y → rank_of ranks y ≡ rank → Has (held ranks rank defs x) y.0
-    holds_held x y h e =
-        subst (λ (o : Option TypeDef). Has (of_rank ranks rank (held_names o)) y.0) (sym h.1)
-        (rank_in (names_in_type h.0.ty) y (has (names_in_type h.0.ty) y h.2) e)
+  -- ---- one more round
 
-    -- ---- one more round
+  abbrev more : List ℕ → ℕ → List ℕ
+  more ns y = with_numbers ns (held defs y)
 
-    abbrev more : List ℕ → ℕ → List ℕ
-    more ns y = with_numbers ns (held ranks rank defs y)
+  wider : (ns : List ℕ) (y n : ℕ) → Contains ns n → Contains (more ns y) n
+  wider ns y n c = contains (more ns y) n (numbers_in (held defs y) ns n (inl (has ns n c)))
 
-    wider : (ns : List ℕ) (y n : ℕ) → Contains ns n → Contains (more ns y) n
-    wider ns y n c = contains (more ns y) n (numbers_in (held ranks rank defs y) ns n (inl (has ns n c)))
+  all_held : (ns : List ℕ) (y : ℕ) → HoldsWithin defs (more ns y) y
+  all_held ns y z h = contains (more ns y) z.0 (numbers_in (held defs y) ns z.0 (inr (holds_held y z h)))
 
-    all_held : (ns : List ℕ) (y : ℕ) → HoldsWithin ranks rank defs (more ns y) y
-    all_held ns y z h e = contains (more ns y) z.0 (numbers_in (held ranks rank defs y) ns z.0 (inr (holds_held y z h e)))
+  pub own_more : (ns : List ℕ) (x y : ℕ) → HoldsWithin defs ns x → HoldsWithin defs (more ns y) x
+  own_more ns x y own z h = wider ns y z.0 (own z h)
 
-    pub own_more : (ns : List ℕ) (x y : ℕ) → HoldsWithin ranks rank defs ns x → HoldsWithin ranks rank defs (more ns y) x
-    own_more ns x y own z h e = wider ns y z.0 (own z h e)
+  pub closed_more : (ns : List ℕ) (at y : ℕ) → slice_get ns at ≡ Some y → IsClosedUpTo defs ns at → IsClosedUpTo defs (more ns y) (at + 1)
+  closed_more ns at y here closed k z lt e = ⊎_elim old new (cases_lt k at)
+    where
+      there : at < length ns
+      there = slice_get_within ns at y here
 
-    pub closed_more : (ns : List ℕ) (at y : ℕ) → slice_get ns at ≡ Some y → IsClosedUpTo ranks rank defs ns at → IsClosedUpTo ranks rank defs (more ns y) (at + 1)
-    closed_more ns at y here closed k z lt e = ⊎_elim old new (cases_lt k at)
-      where
-        there : at < length ns
-        there = slice_get_within ns at y here
+      old : k < at → HoldsWithin defs (more ns y) z
+      old l = own_more ns z y (closed k z l (stood (held defs y) ns k z (let t = there in omega (arith, l, t)) e))
 
-        old : k < at → HoldsWithin ranks rank defs (more ns y) z
-        old l = own_more ns z y (closed k z l (stood (held ranks rank defs y) ns k z (let t = there in omega (arith, l, t)) e))
+      new : at ≤ k → HoldsWithin defs (more ns y) z
+      new ge =
+          let same : k ≡ at = omega (arith, lt, ge) in
+          let t = there in
+          let was : slice_get ns k ≡ Some z = stood (held defs y) ns k z (omega (arith, same, t)) e in
+          let is : y ≡ z = one_at ns at y z here (subst (λ (j : ℕ). slice_get ns j ≡ Some z) same was) in
+          subst (HoldsWithin defs (more ns y)) is (all_held ns y)
 
-        new : at ≤ k → HoldsWithin ranks rank defs (more ns y) z
-        new ge =
-            let same : k ≡ at = omega (arith, lt, ge) in
-            let t = there in
-            let was : slice_get ns k ≡ Some z = stood (held ranks rank defs y) ns k z (omega (arith, same, t)) e in
-            let is : y ≡ z = one_at ns at y z here (subst (λ (j : ℕ). slice_get ns j ≡ Some z) same was) in
-            subst (HoldsWithin ranks rank defs (more ns y)) is (all_held ns y)
+  pub reached_more : (bound x : ℕ) (ns : List ℕ) (y : ℕ) → AreReached defs bound x ns → ((between : List TypeName) × Leads defs (name x) between (name y)) → ((z w : TypeName) → Holds defs z w → w.0 < bound) → AreReached defs bound x (more ns y)
+  reached_more bound x ns y r leads bounded = record {
+    lead = λ n c. of_part n (in_numbers (held defs y) ns n (has (more ns y) n c));
+    differ = distinct_all (held defs y) ns r.differ;
+    below = λ n c. below_part n (in_numbers (held defs y) ns n (has (more ns y) n c));
+  }
+    where
+      of_part : (n : ℕ) → Has ns n ⊎ Has (held defs y) n → (between : List TypeName) × Leads defs (name x) between (name n)
+      of_part n (inl h) = r.lead n (contains ns n h)
+      of_part n (inr h) =
+          let g = held_holds y n h in
+          (leads.0 ++ name y ∷ [], subst (λ (k : ℕ). Leads defs (name x) (leads.0 ++ name y ∷ []) (name k)) g.2 (leads_on defs (name x) (name y) g.0 leads.0 leads.1 g.1))
 
-    pub reached_more : (bound x : ℕ) (ns : List ℕ) (y : ℕ) → AreReached defs bound x ns → ((between : List TypeName) × Leads defs (name x) between (name y)) → ((z w : TypeName) → Holds defs z w → w.0 < bound) → AreReached defs bound x (more ns y)
-    reached_more bound x ns y r leads bounded = record {
-      lead = λ n c. of_part n (in_numbers (held ranks rank defs y) ns n (has (more ns y) n c));
-      differ = distinct_all (held ranks rank defs y) ns r.differ;
-      below = λ n c. below_part n (in_numbers (held ranks rank defs y) ns n (has (more ns y) n c));
-    }
-      where
-        of_part : (n : ℕ) → Has ns n ⊎ Has (held ranks rank defs y) n → (between : List TypeName) × Leads defs (name x) between (name n)
-        of_part n (inl h) = r.lead n (contains ns n h)
-        of_part n (inr h) =
-            let g = held_holds y n h in
-            (leads.0 ++ name y ∷ [], subst (λ (k : ℕ). Leads defs (name x) (leads.0 ++ name y ∷ []) (name k)) g.3 (leads_on defs (name x) (name y) g.0 leads.0 leads.1 g.1))
+      below_part : (n : ℕ) → Has ns n ⊎ Has (held defs y) n → n < bound
+      below_part n (inl h) = r.below n (contains ns n h)
+      below_part n (inr h) = let g = held_holds y n h in let lt = bounded (name y) g.0 g.1 in let e = g.2 in omega (arith, lt, e)
 
-        below_part : (n : ℕ) → Has ns n ⊎ Has (held ranks rank defs y) n → n < bound
-        below_part n (inl h) = r.below n (contains ns n h)
-        below_part n (inr h) = let g = held_holds y n h in let lt = bounded (name y) g.0 g.1 in let e = g.3 in omega (arith, lt, e)
+  pub reached_first : (bound x : ℕ) → ((z w : TypeName) → Holds defs z w → w.0 < bound) → AreReached defs bound x (more [] x)
+  reached_first bound x bounded = record {
+    lead = λ n c. of_part n (in_numbers (held defs x) [] n (has (more [] x) n c));
+    differ = distinct_all (held defs x) [] none_distinct;
+    below = λ n c. below_part n (in_numbers (held defs x) [] n (has (more [] x) n c));
+  }
+    where
+      of_part : (n : ℕ) → Has [] n ⊎ Has (held defs x) n → (between : List TypeName) × Leads defs (name x) between (name n)
+      of_part n (inl h) = absurd h
+      of_part n (inr h) = let g = held_holds x n h in ([], subst (λ (k : ℕ). Holds defs (name x) (name k)) g.2 g.1)
 
-    pub reached_first : (bound x : ℕ) → ((z w : TypeName) → Holds defs z w → w.0 < bound) → AreReached defs bound x (more [] x)
-    reached_first bound x bounded = record {
-      lead = λ n c. of_part n (in_numbers (held ranks rank defs x) [] n (has (more [] x) n c));
-      differ = distinct_all (held ranks rank defs x) [] none_distinct;
-      below = λ n c. below_part n (in_numbers (held ranks rank defs x) [] n (has (more [] x) n c));
-    }
-      where
-        of_part : (n : ℕ) → Has [] n ⊎ Has (held ranks rank defs x) n → (between : List TypeName) × Leads defs (name x) between (name n)
-        of_part n (inl h) = absurd h
-        of_part n (inr h) = let g = held_holds x n h in ([], subst (λ (k : ℕ). Holds defs (name x) (name k)) g.3 g.1)
+      below_part : (n : ℕ) → Has [] n ⊎ Has (held defs x) n → n < bound
+      below_part n (inl h) = absurd h
+      below_part n (inr h) = let g = held_holds x n h in let lt = bounded (name x) g.0 g.1 in let e = g.2 in omega (arith, lt, e)
 
-        below_part : (n : ℕ) → Has [] n ⊎ Has (held ranks rank defs x) n → n < bound
-        below_part n (inl h) = absurd h
-        below_part n (inr h) = let g = held_holds x n h in let lt = bounded (name x) g.0 g.1 in let e = g.3 in omega (arith, lt, e)
-
-    pub own_first : (x : ℕ) → HoldsWithin ranks rank defs (more [] x) x
-    own_first x = all_held [] x
+  pub own_first : (x : ℕ) → HoldsWithin defs (more [] x) x
+  own_first x = all_held [] x
 
 -- ---- the end
 
@@ -193,43 +188,27 @@ module _ (ranks : List ℕ) (rank : ℕ) where
 pub few : (defs : List TypeDef) (bound x : ℕ) (ns : List ℕ) → AreReached defs bound x ns → length ns ≤ bound
 few defs bound x ns r = length-le_from_distinct_below ns bound r.differ (λ q e. r.below q (contains ns q ((number_decides q ns).0 e)))
 
-pub closed_narrower : (ranks : List ℕ) (rank : ℕ) (defs : List TypeDef) (ns : List ℕ) (n m : ℕ) → m ≤ n → IsClosedUpTo ranks rank defs ns n → IsClosedUpTo ranks rank defs ns m
-closed_narrower ranks rank defs ns n m le closed k y lt = closed k y (omega (arith, le, lt))
+pub closed_narrower : (defs : List TypeDef) (ns : List ℕ) (n m : ℕ) → m ≤ n → IsClosedUpTo defs ns n → IsClosedUpTo defs ns m
+closed_narrower defs ns n m le closed k y lt = closed k y (omega (arith, le, lt))
 
 pub none_at : (ns : List ℕ) (k : ℕ) → slice_get ns k ≡ None → length ns ≤ k
 none_at ns k e = ⊎_elim (λ lt. absurd (let w = element ns k lt in let clash : None ≡ Some w.0 = sym e ∙ w.1 in cc)) (λ ge. ge) (cases_lt k (length ns))
 
-module _ (ranks : List ℕ) (defs : List TypeDef) (falling : NeverRise ranks defs) where
-  down : (x z : TypeName) (between : List TypeName) → Leads defs x between z → rank_of ranks z ≤ rank_of ranks x
-  down x z [] l = falling x z l
-  down x z (y ∷ ys) l = let a = falling x y l.0 in let b = down y z ys l.1 in omega (arith, a, b)
+module _ (defs : List TypeDef) (x : TypeName) (ns : List ℕ) (own : HoldsWithin defs ns x.0) (closed : IsClosedUpTo defs ns (length ns)) where
+  step : (y z : TypeName) → Contains ns y.0 → Holds defs y z → Contains ns z.0
+  step y z c h = let at = at_has ns y.0 (has ns y.0 c) in closed at.0 y.0 (slice_get_within ns at.0 y.0 at.1) at.1 z h
 
-  module _ (x : TypeName) (ns : List ℕ) (own : HoldsWithin ranks (rank_of ranks x) defs ns x.0) (closed : IsClosedUpTo ranks (rank_of ranks x) defs ns (length ns)) where
-    step : (y z : TypeName) → Contains ns y.0 → Holds defs y z → rank_of ranks z ≡ rank_of ranks x → Contains ns z.0
-    step y z c h e = let at = at_has ns y.0 (has ns y.0 c) in closed at.0 y.0 (slice_get_within ns at.0 y.0 at.1) at.1 z h e
+  -- a name in the set leads within it
+  along : (y : TypeName) (between : List TypeName) → Contains ns y.0 → Leads defs y between x → Contains ns x.0
+  along y [] c l = step y x c l
+  along y (z ∷ zs) c l = along z zs (step y z c l.0) l.1
 
-    -- a name in the set leads within it
-    along : (y : TypeName) (between : List TypeName) → Contains ns y.0 → rank_of ranks y ≡ rank_of ranks x → Leads defs y between x → Contains ns x.0
-    along y [] c same l = step y x c l refl
-    along y (z ∷ zs) c same l =
-        let a = falling y z l.0 in
-        let b = down z x zs l.1 in
-        let e : rank_of ranks z ≡ rank_of ranks x = omega (arith, a, b, same) in
-        along z zs (step y z c l.0 e) e l.1
-
-    pub on_cycle : HoldsItself defs x → Contains ns x.0
-    on_cycle (between, l) = from_own between l
-      where
-        from_own : (between : List TypeName) → Leads defs x between x → Contains ns x.0
-        from_own [] l = own x l refl
-        from_own (z ∷ zs) l =
-            let a = falling x z l.0 in
-            let b = down z x zs l.1 in
-            let e : rank_of ranks z ≡ rank_of ranks x = omega (arith, a, b) in
-            along z zs (own z l.0 e) e l.1
-
-    pub itself_decides : (bound : ℕ) → AreReached defs bound x.0 ns → Decides (list_any (nat_eq x.0) ns) (HoldsItself defs x)
-    itself_decides bound r = (λ e. r.lead x.0 (contains ns x.0 ((number_decides x.0 ns).0 e)), λ h. (number_decides x.0 ns).1 (has ns x.0 (on_cycle h)))
+  pub itself_decides : (bound : ℕ) → AreReached defs bound x.0 ns → Decides (list_any (nat_eq x.0) ns) (HoldsItself defs x)
+  itself_decides bound r = (λ e. r.lead x.0 (contains ns x.0 ((number_decides x.0 ns).0 e)), λ h. (number_decides x.0 ns).1 (has ns x.0 (on_cycle h.0 h.1)))
+    where
+      on_cycle : (between : List TypeName) → Leads defs x between x → Contains ns x.0
+      on_cycle [] l = own x l
+      on_cycle (z ∷ zs) l = along z zs (own z l.0) l.1
 
 -- ---- names of a proper module
 
@@ -273,21 +252,3 @@ module _ (m : Module) (proper : IsProper m) where
       mapped [] d g = absurd g
       mapped (e ∷ es) d (inl same) = inl (ap (λ (b : TypeDef). b.name) same)
       mapped (e ∷ es) d (inr g) = inr (mapped es d g)
-
--- ---- ranks
-
--- no name that this one holds has a higher rank
-abbrev pub RisesNot : List ℕ → List TypeDef → ℕ → Type 0
-RisesNot ranks defs x = (y : TypeName) → Holds defs (record { 0 = x }) y → rank_of ranks y ≤ rank_of ranks (record { 0 = x })
-
-pub rises_not : (ranks : List ℕ) (defs : List TypeDef) (x : ℕ) → list_all (λ (y : TypeName). nat_le (rank_of ranks y) (rank_of ranks (record { 0 = x }))) (held_names (definition defs (record { 0 = x }))) ≡ true → RisesNot ranks defs x
-rises_not ranks defs x e y h =
-    let names : list_all test (names_in_type h.0.ty) ≡ true = subst (λ (o : Option TypeDef). list_all test (held_names o) ≡ true) h.1 e in
-    let t : nat_le (rank_of ranks y) (rank_of ranks (record { 0 = x })) ≡ true = passes test (names_in_type h.0.ty) y names (has (names_in_type h.0.ty) y h.2) in
-    grind (arith, nat_tests)
-  where
-    test : TypeName → Bool
-    test z = nat_le (rank_of ranks z) (rank_of ranks (record { 0 = x }))
-
-pub never_rises : (m : Module) → IsProper m → (ranks : List ℕ) (count : ℕ) → count ≡ length m.types.names → ((x : ℕ) → x < count → RisesNot ranks m.types.defs x) → NeverRise ranks m.types.defs
-never_rises m proper ranks count same each x y h = let lt = holder_listed m proper x y h in each x.0 (omega (arith, lt, same)) y h

@@ -13,10 +13,12 @@ use Rattle.ir_core.specs.declared.module.Module.{Module}
 use Rattle.ir_core.specs.Acyclic.{Holds, HoldsItself}
 use Rattle.ir_core.specs.Parts.{listed}
 use Rattle.ir_core.specs.Proper.{IsProper}
-use Rattle.ir_core.specs.Stands.{start}
+use Rattle.ir_core.specs.Operands.{start}
 use Rattle.ir_core.specs.ValidModule.{Introduced, named, name_bytes, data_end, HasTooMuchData, HasTooManyNames, BreaksMain, BreaksTotals, BreaksTarget}
 use Rattle.ir_core.specs.ValidTypes.{BreaksTypeNames}
-use Rattle.ir_core.specs.FirstBroken.{ModuleRule, Main, SymbolTwice, TypeNames, Sizes, Initialisers, Totals, Alignments, Target, module_rule, BreaksModule}
+use Rattle.ir_core.specs.declared.rule.ModuleRule.{ModuleRule}
+use Rattle.ir_core.specs.declared.rule.ModuleRule.TheVariants.{Main, SymbolTwice, TypeNames, Sizes, Initialisers, Totals, Alignments, Target}
+use Rattle.ir_core.specs.FirstBroken.{module_rule, BreaksModule}
 use Rattle.ir_core.proofs.Lists.{element}
 use Rattle.module_rules.specs.First.{earlier, earliest, IsFound}
 use Rattle.module_rules.specs.Faults.{place_if, with_numbers}
@@ -28,12 +30,11 @@ use Rattle.module_rules.specs.TypeFaults.{BreaksUses, uses_of, again_faults}
 use Rattle.module_rules.specs.SizeFaults.{small_defs, size_faults}
 use Rattle.module_rules.specs.InitFaults.{init_faults}
 use Rattle.module_rules.specs.AlignFaults.{align_faults}
-use Rattle.module_rules.specs.Cycles.{rank_of, NeverRise, held, HoldsWithin, IsClosedUpTo, AreReached}
 use Rattle.module_rules.proofs.Decided.{false_is_not_true}
 use Rattle.module_rules.proofs.Earliest.{found_same, found_either}
 use Rattle.module_rules.proofs.Faulty.{places}
 use Rattle.module_rules.proofs.At.{found_at}
-use Rattle.module_rules.proofs.Reaching.{own_more, closed_more, reached_more, reached_first, own_first, few, none_at, closed_narrower, itself_decides, held_listed}
+use Rattle.module_rules.proofs.Reaching.{held, HoldsWithin, IsClosedUpTo, AreReached, own_more, closed_more, reached_more, reached_first, own_first, few, none_at, closed_narrower, itself_decides, held_listed}
 use Rattle.module_rules.proofs.TypeNameLaws.{BreaksSoFar, none_so_far, one_more, all_so_far}
 use Rattle.module_rules.proofs.Listing.{contained}
 use Rattle.module_rules.proofs.MainLaws.{main_good, main_broken}
@@ -61,40 +62,34 @@ main_decided m = by_test (list_any (is_good_main m) m.funcs) refl
 -- ---- type names
 
 module _ (defs : List TypeDef) (bound : ℕ) (bounded : (z w : TypeName) → Holds defs z w → w.0 < bound) where
-  no_ranks : NeverRise [] defs
-  no_ranks x y h = omega arith
-
-  abbrev zero_rank : TypeName → ℕ
-  zero_rank x = rank_of [] x
-
-  abbrev with_more : TypeName → List ℕ → ℕ → List ℕ
-  with_more x ns y = with_numbers ns (held [] (zero_rank x) defs y)
+  abbrev with_more : List ℕ → ℕ → List ℕ
+  with_more ns y = with_numbers ns (held defs y)
 
   -- a set of names to which one leads, with all that these hold
   abbrev Closed : TypeName → Type 0
-  Closed x = (ns : List ℕ) × AreReached defs bound x.0 ns × HoldsWithin [] (zero_rank x) defs ns x.0 × IsClosedUpTo [] (zero_rank x) defs ns (length ns)
+  Closed x = (ns : List ℕ) × AreReached defs bound x.0 ns × HoldsWithin defs ns x.0 × IsClosedUpTo defs ns (length ns)
 
-  closing : (x : TypeName) (n at : ℕ) (ns : List ℕ) → at + n ≡ bound → AreReached defs bound x.0 ns → HoldsWithin [] (zero_rank x) defs ns x.0 → IsClosedUpTo [] (zero_rank x) defs ns at → Closed x
+  closing : (x : TypeName) (n at : ℕ) (ns : List ℕ) → at + n ≡ bound → AreReached defs bound x.0 ns → HoldsWithin defs ns x.0 → IsClosedUpTo defs ns at → Closed x
   closing x zero at ns sum reached own closed =
       let most = few defs bound x.0 ns reached in
-      (ns, reached, own, closed_narrower [] (zero_rank x) defs ns at (length ns) (omega (arith, sum, most)) closed)
+      (ns, reached, own, closed_narrower defs ns at (length ns) (omega (arith, sum, most)) closed)
   closing x (suc n) at ns sum reached own closed = by_next (slice_get ns at) refl (λ ms r o c. closing x n (at + 1) ms (omega (arith, sum)) r o c)
     where
-      by_next : (o : Option ℕ) → slice_get ns at ≡ o → ((ms : List ℕ) → AreReached defs bound x.0 ms → HoldsWithin [] (zero_rank x) defs ms x.0 → IsClosedUpTo [] (zero_rank x) defs ms (at + 1) → Closed x) → Closed x
-      by_next None e go_on = let past = none_at ns at e in (ns, reached, own, closed_narrower [] (zero_rank x) defs ns at (length ns) past closed)
+      by_next : (o : Option ℕ) → slice_get ns at ≡ o → ((ms : List ℕ) → AreReached defs bound x.0 ms → HoldsWithin defs ms x.0 → IsClosedUpTo defs ms (at + 1) → Closed x) → Closed x
+      by_next None e go_on = let past = none_at ns at e in (ns, reached, own, closed_narrower defs ns at (length ns) past closed)
       by_next (Some y) e go_on =
-          go_on (with_more x ns y)
-          (reached_more [] (zero_rank x) defs bound x.0 ns y reached (reached.lead y (contained ns at y e)) bounded)
-          (own_more [] (zero_rank x) defs ns x.0 y own)
-          (closed_more [] (zero_rank x) defs ns at y e closed)
+          go_on (with_more ns y)
+          (reached_more defs bound x.0 ns y reached (reached.lead y (contained ns at y e)) bounded)
+          (own_more defs ns x.0 y own)
+          (closed_more defs ns at y e closed)
 
   closure : (x : TypeName) → Closed x
   closure x =
-      closing x bound 0 (with_more x [] x.0) (omega arith) (reached_first [] (zero_rank x) defs bound x.0 bounded) (own_first [] (zero_rank x) defs x.0)
+      closing x bound 0 (with_more [] x.0) (omega arith) (reached_first defs bound x.0 bounded) (own_first defs x.0)
       (λ k y lt. absurd (omega (arith, lt)))
 
   decide_itself : (x : TypeName) → HoldsItself defs x ⊎ (HoldsItself defs x → ⊥)
-  decide_itself x = let c = closure x in by_test (list_any (nat_eq x.0) c.0) (itself_decides [] defs no_ranks x c.0 c.2 c.3 bound c.1)
+  decide_itself x = let c = closure x in by_test (list_any (nat_eq x.0) c.0) (itself_decides defs x c.0 c.2 c.3 bound c.1)
     where
       by_test : (t : Bool) → Decides t (HoldsItself defs x) → HoldsItself defs x ⊎ (HoldsItself defs x → ⊥)
       by_test true d = inl (d.0 refl)

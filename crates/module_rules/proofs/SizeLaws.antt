@@ -14,7 +14,7 @@ use Rattle.ir_core.specs.declared.ty.IrType.TheOpen.{IrType-F}
 use Rattle.ir_core.specs.declared.ty.IrType.TheVariants as types
 use Rattle.ir_core.specs.declared.ty.IrType.TheVariants.{outs-Void, outs-Int, outs-Ptr, outs-Array, outs-Struct', outs-Named}
 use Rattle.ir_core.specs.Parts.{listed, names_in_type, names_in_types}
-use Rattle.ir_core.specs.Sizes.{array_of, empty, behind, rounded, placed, layout_by, field_layouts, definition, name_layout, layout, IsLaid}
+use Rattle.ir_core.specs.Sizes.{array_of, empty, after, rounded, placed, layout_by, field_layouts, definition, name_layout, layout, IsLaid}
 use Rattle.ir_core.specs.ValidTypes.{directly_in, LeadsInto, StandsIn, IsTooLarge}
 use Rattle.ir_core.proofs.Layouts.{at_struct}
 use Rattle.ir_core.proofs.Lists.{Has, has_left, has_right, contains}
@@ -36,7 +36,7 @@ unmapped k (Some l) e = refl
 
 first_placed : (b : Layout) (o : Option Layout) (os : List (Option Layout)) → IsSome (placed b (o ∷ os)) → IsSome o × ((c : Layout) × IsSome (placed c os))
 first_placed b None os e = cc
-first_placed b (Some l) os e = (refl, (behind b l, e))
+first_placed b (Some l) os e = (refl, (after b l, e))
 
 mutual
   named : (f : TypeName → Option Layout) (t : IrType) → IsSome (layout_by f t) → (x : TypeName) → Has (names_in_type t) x → IsSome (f x)
@@ -63,7 +63,7 @@ all_placed b f (x ∷ xs) e =
   where
     by_layout : (o : Option Layout) → is_some o ≡ true → ((c : Layout) → IsSome (placed c (map (layout_by f) (map (λ (y : TypeName). Named y) xs)))) → IsSome (placed b (o ∷ map (layout_by f) (map (λ (y : TypeName). Named y) xs)))
     by_layout None some rest = absurd (false_is_not_true some)
-    by_layout (Some l) some rest = rest (behind b l)
+    by_layout (Some l) some rest = rest (after b l)
 
 names_struct_laid : (f : TypeName → Option Layout) (ns : List TypeName) → list_all (λ (x : TypeName). is_some (f x)) ns ≡ true → IsSome (layout_by f (types.Struct (map (λ (x : TypeName). Named x) ns)))
 names_struct_laid f ns e = subst (λ (o : Option Layout). IsSome o) (sym (at_struct f (map (λ (x : TypeName). Named x) ns))) (mapped rounded (placed empty (map (layout_by f) (map (λ (x : TypeName). Named x) ns))) (all_placed empty f ns e))

@@ -15,7 +15,7 @@ use Rattle.ir_core.specs.declared.func.Block.{Block}
 use Rattle.ir_core.specs.declared.func.Func.{Func}
 use Rattle.ir_core.specs.Parts.{instrs, op_values, end_values}
 use Rattle.ir_core.specs.Sizes.{size, IsLaid}
-use Rattle.ir_core.specs.Stands.{Step, Does, Ends, block_steps, steps, place_of, AtStep, AtInstr, AtGlobal}
+use Rattle.ir_core.specs.Operands.{Step, Does, Ends, block_steps, steps, place_of, AtStep, AtInstr, AtGlobal}
 use Rattle.ir_core.specs.ValidTypes.{const_sources, sources_in_values, op_sized, step_sized, IsTooLarge, OneIsTooLarge, MakesTooMuch, BreaksTypeNames, BreaksSizes}
 use Rattle.ir_core.proofs.Lists.{Has, has_left, has_part, contains}
 use Rattle.module_rules.specs.First.{earliest, IsFound}

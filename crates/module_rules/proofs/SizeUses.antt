@@ -13,7 +13,7 @@ use Rattle.ir_core.specs.declared.op.Op.TheVariants.{Bin, Icmp, Select, Cast, Al
 use Rattle.ir_core.specs.declared.func.Func.{Func}
 use Rattle.ir_core.specs.Parts.{op_values, end_values, end_types, operand_consts, const_types, consts_types}
 use Rattle.ir_core.specs.Sizes.{IsLaid}
-use Rattle.ir_core.specs.Stands.{Step, Does, Ends, steps, place_of}
+use Rattle.ir_core.specs.Operands.{Step, Does, Ends, steps, place_of}
 use Rattle.ir_core.specs.ValidTypes.{TypeUse, value_use, value_uses, op_uses, types_in_values, step_uses, func_uses, type_uses, const_sources, consts_sources, sources_in_values, op_sized, step_sized, BreaksTypeNames}
 use Rattle.ir_core.proofs.Lists.{Has, has_left, has_right, has_part, contains}
 use Rattle.module_rules.specs.TypeFaults.{def_use, global_uses, param_types}

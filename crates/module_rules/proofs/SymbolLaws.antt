@@ -8,7 +8,7 @@ use Rattle.indexmap.specs.IndexMap.{insert_entry}
 use Rattle.oi_base.specs.declared.ids.Place.{Place}
 use Rattle.ir_core.specs.declared.module.SymId.{SymId}
 use Rattle.ir_core.specs.declared.module.Module.{Module}
-use Rattle.ir_core.specs.Stands.{is_up_to}
+use Rattle.ir_core.specs.Operands.{is_up_to}
 use Rattle.ir_core.specs.ValidModule.{Introduced, introduced_globals, introduced_funcs, BreaksSymbolTwice}
 use Rattle.ir_core.proofs.Lists.{Has, has_left, has_right, has_at, at_has}
 use Rattle.module_rules.specs.First.{earliest, IsFound}
@@ -110,7 +110,7 @@ module _ (seen : List Introduced) (a : Introduced) where
       old : (p : Place) → Twice seen p ⊎ New p → Twice seen p
       old p (inl h) = h
       old p (inr h) = absurd (l h.0 h.1 (ap (λ (x : SymId). x.0) h.2))
-  first_more o (Some q) f l = found_more (Twice seen) (Twice more) o (later q a.place) f kept here (λ p h. behind p (split p h))
+  first_more o (Some q) f l = found_more (Twice seen) (Twice more) o (later q a.place) f kept here (λ p h. after p (split p h))
     where
       here : Twice more (later q a.place)
       here =
@@ -124,9 +124,9 @@ module _ (seen : List Introduced) (a : Introduced) where
       up_to_new p false e (b, h, same, inl g) = absurd (false_is_not_true (sym e ∙ up_to_trans q b.place a.place (l.1 b h (ap (λ (x : SymId). x.0) same)) g.0))
       up_to_new p false e (b, h, same, inr g) = subst (λ (z : Place). is_up_to q z ≡ true) g.1 (l.1 b h (ap (λ (x : SymId). x.0) same))
 
-      behind : (p : Place) → Twice seen p ⊎ New p → Twice seen p ⊎ (is_up_to (later q a.place) p ≡ true)
-      behind p (inl h) = inl h
-      behind p (inr h) = inr (up_to_new p (is_up_to q a.place) refl h)
+      after : (p : Place) → Twice seen p ⊎ New p → Twice seen p ⊎ (is_up_to (later q a.place) p ≡ true)
+      after p (inl h) = inl h
+      after p (inr h) = inr (up_to_new p (is_up_to q a.place) refl h)
 
   -- the least place of a name with one more symbol
   of_name : (known : Option Place) → IsLeastOf a.name.0 seen known → IsLeastOf a.name.0 more (Some (least_with known a.place))

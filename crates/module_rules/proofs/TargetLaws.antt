@@ -6,7 +6,7 @@ use Rattle.std.proofs.lemmas.Bool.Decides.{nat_tests, Decides-and}
 use Rattle.std.proofs.lemmas.Slice.Eq.{bytes_eq-Decides}
 use Rattle.oi_base.specs.declared.ids.Place.{Place}
 use Rattle.ir_core.specs.declared.module.Module.{Module}
-use Rattle.ir_core.specs.Stands.{start, is_up_to}
+use Rattle.ir_core.specs.Operands.{start, is_up_to}
 use Rattle.ir_core.specs.ValidModule.{EndsAPart, BeginsAPart, HasPart, IsLayout, IsTriple, IsWrong, BreaksTarget}
 use Rattle.module_rules.specs.First.{IsFound}
 use Rattle.module_rules.specs.Target.{begins_a_part, is_part_here, has_part_from, has_part, is_layout, is_triple, is_good, has_good_target}
@@ -54,7 +54,7 @@ begins_part (b ∷ bs) = (of_test, to_test)
     to_test (inr h) = let both : b ∷ bs ≡ 45 ∷ h.0 = h.1 in let same : b ≡ 45 = cc in grind (arith, nat_tests)
 
 abbrev IsHere : List ℕ → List ℕ → Type 0
-IsHere part text = (behind : List ℕ) × (text ≡ part ++ behind) × BeginsAPart behind
+IsHere part text = (further : List ℕ) × (text ≡ part ++ further) × BeginsAPart further
 
 here : (part text : List ℕ) → Decides (is_part_here part text) (IsHere part text)
 here part text = (of_test, to_test)
@@ -75,12 +75,12 @@ here part text = (of_test, to_test)
 
 -- ---- one of the parts
 
--- where a text begins a part or not, a part of it begins behind these bytes
+-- where a text begins a part or not, a part of it begins after these bytes
 abbrev Begins : Bool → List ℕ → Type 0
 Begins begins before = ((before ≡ []) × (begins ≡ true)) ⊎ ((more : List ℕ) × (before ≡ more ++ 45 ∷ []))
 
 abbrev HasFrom : List ℕ → Bool → List ℕ → Type 0
-HasFrom part begins text = (before behind : List ℕ) × (text ≡ before ++ part ++ behind) × Begins begins before × BeginsAPart behind
+HasFrom part begins text = (before further : List ℕ) × (text ≡ before ++ part ++ further) × Begins begins before × BeginsAPart further
 
 dash : (b : ℕ) → (b == 45) ≡ true → b ≡ 45
 dash b e = grind (arith, nat_tests)
@@ -113,8 +113,8 @@ found_here part text begins e =
     let h = (here part text).0 both.1 in
     ([], h.0, h.1, inl (refl, both.0), h.2)
 
-here_found : (part text behind : List ℕ) (begins : Bool) → text ≡ part ++ behind → begins ≡ true → BeginsAPart behind → (begins && is_part_here part text) ≡ true
-here_found part text behind begins e b p = true_and begins (is_part_here part text) b ((here part text).1 (behind, e, p))
+here_found : (part text further : List ℕ) (begins : Bool) → text ≡ part ++ further → begins ≡ true → BeginsAPart further → (begins && is_part_here part text) ≡ true
+here_found part text further begins e b p = true_and begins (is_part_here part text) b ((here part text).1 (further, e, p))
 
 sound : (part text : List ℕ) (begins : Bool) → has_part_from part begins text ≡ true → HasFrom part begins text
 sound part [] begins e = found_here part [] begins e
@@ -149,13 +149,13 @@ complete part (b ∷ bs) begins h = by_before h.0 h.2 h.3 (complete part bs (b =
     by_before [] e (inr g) rest = absurd (no_last g.0 g.1)
     by_before (c ∷ cs) e (inl g) rest = absurd (let clash : c ∷ cs ≡ [] = g.0 in cc)
     by_before (c ∷ cs) e (inr g) rest =
-        right_true (begins && is_part_here part (b ∷ bs)) (has_part_from part (b == 45) bs) (rest (cs, h.1, behind, after g.0 g.1, h.4))
+        right_true (begins && is_part_here part (b ∷ bs)) (has_part_from part (b == 45) bs) (rest (cs, h.1, further, after g.0 g.1, h.4))
       where
         both : b ∷ bs ≡ c ∷ (cs ++ part ++ h.1)
         both = e
 
-        behind : bs ≡ cs ++ part ++ h.1
-        behind = cc
+        further : bs ≡ cs ++ part ++ h.1
+        further = cc
 
         first : b ≡ c
         first = cc

@@ -9,7 +9,7 @@ use Rattle.std.proofs.lemmas.Option.{slice_get_within}
 use Rattle.oi_base.specs.declared.ids.Place.{Place}
 use Rattle.ir_core.specs.declared.ty.TypeDef.{TypeDef}
 use Rattle.ir_core.specs.declared.module.GlobalVar.{GlobalVar}
-use Rattle.ir_core.specs.Stands.{is_up_to}
+use Rattle.ir_core.specs.Operands.{is_up_to}
 use Rattle.ir_core.specs.Sizes.{size}
 use Rattle.ir_core.specs.ValidModule.{global_align, data_end}
 use Rattle.module_rules.specs.First.{earliest, IsFound}
@@ -18,7 +18,7 @@ use Rattle.module_rules.specs.TotalFaults.{AreDataPast}
 use Rattle.module_rules.proofs.Distinct.{at_in_first, at_last, last_at}
 use Rattle.module_rules.proofs.Earliest.{up_to_itself, found_more, found_same}
 
--- an end that stands for one behind the most gives one again
+-- an end that stands for one after the most gives one again
 capped : (e a s : ℕ) → min (next_multiple_of (min e 1048577) a + min s 16777217) 1048577 ≡ min (next_multiple_of e a + s) 1048577
 capped e a s = ⊎_elim
     (λ (lt : e < 1048577). let same : min e 1048577 ≡ e = omega (arith, lt) in rw same (omega arith))

@@ -6,7 +6,7 @@ use Rattle.oi_base.specs.declared.ids.Place.{Place}
 use Rattle.ir_core.specs.declared.ty.TypeDef.{TypeDef}
 use Rattle.ir_core.specs.declared.module.Module.{Module}
 use Rattle.ir_core.specs.Acyclic.{HoldsItself}
-use Rattle.ir_core.specs.Stands.{is_up_to}
+use Rattle.ir_core.specs.Operands.{is_up_to}
 use Rattle.ir_core.specs.ValidTypes.{BreaksTypeNames, IsDefinedByItself}
 use Rattle.module_rules.specs.First.{IsFound}
 use Rattle.module_rules.specs.TypeFaults.{BreaksUses}
@@ -45,18 +45,18 @@ module _ (m : Module) where
             let is : h.1 ≡ d = one_at m.types.defs n h.1 d (subst (λ (j : ℕ). slice_get m.types.defs j ≡ Some h.1) k h.3) here in
             inr (subst (λ (e : TypeDef). e.place ≡ p) is h.4, subst (λ (e : TypeDef). HoldsItself m.types.defs e.name) is h.5)
 
-    behind : (p : Place) → BreaksSoFar (n + 1) p → BreaksSoFar n p ⊎ (is_up_to d.place p ≡ true)
-    behind p b = ⊎_elim inl (λ h. inr (subst (λ (z : Place). is_up_to d.place z ≡ true) h.0 (up_to_itself d.place))) (split p b)
+    after : (p : Place) → BreaksSoFar (n + 1) p → BreaksSoFar n p ⊎ (is_up_to d.place p ≡ true)
+    after p b = ⊎_elim inl (λ h. inr (subst (λ (z : Place). is_up_to d.place z ≡ true) h.0 (up_to_itself d.place))) (split p b)
 
     pub one_more : (before first : Option Place) → IsWithItself m.types.defs before d first → IsFound (BreaksSoFar n) before → IsFound (BreaksSoFar (n + 1)) first
     one_more before first (inl h) f =
         subst (IsFound (BreaksSoFar (n + 1))) (sym h.1)
-        (found_more (BreaksSoFar n) (BreaksSoFar (n + 1)) before d.place f up (inr (n, d, omega arith, here, refl, h.0)) behind)
+        (found_more (BreaksSoFar n) (BreaksSoFar (n + 1)) before d.place f up (inr (n, d, omega arith, here, refl, h.0)) after)
     one_more before first (inr (inl other, e)) f =
         subst (IsFound (BreaksSoFar (n + 1))) (sym e)
         (found_same (BreaksSoFar n) (BreaksSoFar (n + 1)) before f up (λ p b. ⊎_elim (λ q. q) (λ h. absurd (other h.1)) (split p b)))
     one_more before first (inr (inr same, e)) f =
-        subst (IsFound (BreaksSoFar (n + 1))) (sym e) (found_beside (BreaksSoFar n) (BreaksSoFar (n + 1)) before d.place f same up behind)
+        subst (IsFound (BreaksSoFar (n + 1))) (sym e) (found_beside (BreaksSoFar n) (BreaksSoFar (n + 1)) before d.place f same up after)
 
   pub all_so_far : (n : ℕ) (first : Option Place) → length m.types.defs ≤ n → IsFound (BreaksSoFar n) first → IsFound (BreaksTypeNames m) first
   all_so_far n first le f = found_same (BreaksSoFar n) (BreaksTypeNames m) first f there back

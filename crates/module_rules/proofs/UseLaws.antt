@@ -16,7 +16,7 @@ use Rattle.ir_core.specs.declared.func.Block.{Block}
 use Rattle.ir_core.specs.declared.func.Func.{Func}
 use Rattle.ir_core.specs.Parts.{names_in_type}
 use Rattle.ir_core.specs.Acyclic.{HasNoVoid, HaveNoVoid}
-use Rattle.ir_core.specs.Stands.{Does, Ends, block_steps}
+use Rattle.ir_core.specs.Operands.{Does, Ends, block_steps}
 use Rattle.ir_core.specs.ValidTypes.{TypeUse, result_use, value_uses, step_uses, func_uses, type_uses, HasVoid, NamesNoStruct, IsUsed, IsDefinedAgain}
 use Rattle.ir_core.proofs.Lists.{Has, has_left, has_right, has_part, contains}
 use Rattle.module_rules.specs.First.{earlier, earliest, IsFound}

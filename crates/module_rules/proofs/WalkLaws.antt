@@ -7,7 +7,8 @@ use Rattle.ir_core.specs.declared.ty.IrType.{IrType, Void, Int, Ptr, Array', Str
 use Rattle.ir_core.specs.declared.ty.IrType.TheOpen.{IrType-F}
 use Rattle.ir_core.specs.Sizes.{types_in}
 use Rattle.ir_core.specs.ValidConsts.{IsInteger, Index, GoesInto, Walk, WalkFrom, plain}
-use Rattle.module_rules.specs.Walks.{is_integer, is_word, field_at, inner, next, walks_from, walks_into, walks}
+use Rattle.ir_core.specs.Types.{is_integer, is_word}
+use Rattle.module_rules.specs.Walks.{field_at, inner, next, walks_from, walks_into, walks}
 use Rattle.module_rules.proofs.Decided.{always, never, false_is_not_true}
 
 pub integer_decides : (t : IrType) → Decides (is_integer t) (IsInteger t)

@@ -1,11 +1,10 @@
 -- What serves every rule: lists of places, sets of numbers, and which integers fit their types.
-use Rattle.std.specs.Prelude.{ℕ, ◌/◌, ◌==◌, nat_eq, nat_lt, ℤ, pos, negsuc, Bool, true, false, if◌then◌else◌, List, [], ◌∷◌, ◌++◌, map, fold}
+use Rattle.std.specs.Prelude.{ℕ, ◌/◌, ◌==◌, nat_eq, nat_lt, ℤ, pos, negsuc, Bool, false, if◌then◌else◌, List, [], ◌∷◌, ◌++◌, map, fold}
 use Rattle.std.specs.List.{flat_map, list_any}
 use Rattle.oi_base.specs.declared.ids.Place.{Place}
 use Rattle.oi_base.specs.declared.words.Width.{Width}
-use Rattle.oi_base.specs.declared.words.Width.TheVariants.{W1}
 use Rattle.oi_base.specs.Words.{modulus}
-use Rattle.ir_core.specs.declared.ty.IrType.{IrType, Int, Ptr}
+use Rattle.ir_core.specs.declared.ty.IrType.{IrType, Int}
 use Rattle.ir_core.specs.declared.constant.TypedCount.{TypedCount}
 use Rattle.ir_core.specs.declared.op.LocalId.{LocalId}
 use Rattle.ir_core.specs.declared.func.Instr.{Instr}
@@ -13,7 +12,7 @@ use Rattle.ir_core.specs.declared.func.Block.{Block}
 use Rattle.ir_core.specs.declared.func.Func.{Func}
 use Rattle.ir_core.specs.declared.module.GlobalVar.{GlobalVar}
 use Rattle.ir_core.specs.declared.module.Module.{Module}
-use Rattle.ir_core.specs.Stands.{Step, Does, Ends}
+use Rattle.ir_core.specs.Operands.{Step, Does, Ends}
 
 -- a place where something is so
 abbrev pub place_if : Bool → Place → List Place
@@ -62,14 +61,6 @@ fits w (negsuc a) = nat_lt a (modulus w / 2)
 abbrev pub fits_type : IrType → ℤ → Bool
 fits_type (Int w) n = fits w n
 fits_type _ n = false
-
-abbrev pub is_bit : IrType → Bool
-is_bit (Int W1) = true
-is_bit _ = false
-
-abbrev pub is_pointer : IrType → Bool
-is_pointer Ptr = true
-is_pointer _ = false
 
 abbrev pub count_fits : TypedCount → Bool
 count_fits n = fits_type n.ty n.count

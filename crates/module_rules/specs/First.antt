@@ -1,7 +1,7 @@
 -- The first of the places at which a rule is broken.
 use Rattle.std.specs.Prelude.{if◌then◌else◌, List, fold, Option, Some, None}
 use Rattle.oi_base.specs.declared.ids.Place.{Place}
-use Rattle.ir_core.specs.Stands.{is_up_to}
+use Rattle.ir_core.specs.Operands.{is_up_to}
 use Rattle.ir_core.specs.FirstBroken.{IsFirstPlace}
 
 -- the first place at which a rule is broken, or none where it is broken nowhere

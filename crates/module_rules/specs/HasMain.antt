@@ -4,7 +4,7 @@ use Rattle.ir_core.specs.declared.module.Module.{Module}
 use Rattle.ir_core.specs.declared.func.Func.{Func}
 use Rattle.ir_core.specs.declared.func.Param.{Param}
 use Rattle.ir_core.specs.Source.{is_main}
-use Rattle.module_rules.specs.Walks.{is_word}
+use Rattle.ir_core.specs.Types.{is_word}
 
 abbrev pub is_empty : List Param → Bool
 is_empty [] = true

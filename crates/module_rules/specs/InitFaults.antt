@@ -13,7 +13,8 @@ use Rattle.ir_core.specs.declared.constant.Const.{Const, Row_of-TypedConst, end_
 use Rattle.ir_core.specs.declared.constant.Const as consts
 use Rattle.ir_core.specs.declared.constant.TypedConst.{TypedConst}
 use Rattle.ir_core.specs.ValidConsts.{const_index, plain}
-use Rattle.module_rules.specs.Faults.{place_if, global_numbers, fits_type, is_bit, is_pointer, count_fits}
+use Rattle.ir_core.specs.Types.{is_bit, is_pointer}
+use Rattle.module_rules.specs.Faults.{place_if, global_numbers, fits_type, count_fits}
 use Rattle.module_rules.specs.Walks.{walks}
 use Rattle.module_rules.specs.SameTypes.{same_type}
 

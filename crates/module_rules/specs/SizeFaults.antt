@@ -15,7 +15,7 @@ use Rattle.ir_core.specs.declared.op.End.{End}
 use Rattle.ir_core.specs.declared.func.Func.{Func}
 use Rattle.ir_core.specs.Parts.{names_in_type, op_values, end_values}
 use Rattle.ir_core.specs.Sizes.{size}
-use Rattle.ir_core.specs.Stands.{Step, Does, Ends}
+use Rattle.ir_core.specs.Operands.{Step, Does, Ends}
 use Rattle.ir_core.specs.ValidTypes.{const_sources, sources_in_values, op_sized}
 use Rattle.module_rules.specs.Faults.{place_if, step_faults}
 use Rattle.module_rules.specs.TypeFaults.{is_laid_name}

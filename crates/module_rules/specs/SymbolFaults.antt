@@ -3,7 +3,7 @@ use Rattle.std.specs.Prelude.{ℕ, nat_eq, if◌then◌else◌, List, [], ◌∷
 use Rattle.std.specs.Map.{lookup}
 use Rattle.indexmap.specs.IndexMap.{insert_entry}
 use Rattle.oi_base.specs.declared.ids.Place.{Place}
-use Rattle.ir_core.specs.Stands.{is_up_to}
+use Rattle.ir_core.specs.Operands.{is_up_to}
 use Rattle.ir_core.specs.ValidModule.{Introduced, introduced_globals, introduced_funcs}
 use Rattle.ir_core.specs.declared.module.Declaration.{Declaration}
 use Rattle.ir_core.specs.declared.module.Module.{Module}

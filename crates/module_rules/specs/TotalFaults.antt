@@ -5,7 +5,7 @@ use Rattle.ir_core.specs.declared.ty.TypeDef.{TypeDef}
 use Rattle.ir_core.specs.declared.module.SymId.{SymId}
 use Rattle.ir_core.specs.declared.module.GlobalVar.{GlobalVar}
 use Rattle.ir_core.specs.declared.module.Module.{Module}
-use Rattle.ir_core.specs.Stands.{is_up_to, symbol_text}
+use Rattle.ir_core.specs.Operands.{is_up_to, symbol_text}
 use Rattle.ir_core.specs.ValidModule.{Introduced, named, name_bytes, data_end}
 use Rattle.module_rules.specs.declared.totals.Name.{Name}
 

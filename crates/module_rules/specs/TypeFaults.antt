@@ -15,7 +15,7 @@ use Rattle.ir_core.specs.declared.func.Func.{Func}
 use Rattle.ir_core.specs.declared.func.Param.{Param}
 use Rattle.ir_core.specs.Parts.{names_in_type, const_types}
 use Rattle.ir_core.specs.Sizes.{layout}
-use Rattle.ir_core.specs.Stands.{Does, Ends}
+use Rattle.ir_core.specs.Operands.{Does, Ends}
 use Rattle.ir_core.specs.ValidTypes.{TypeUse, AtType, HasVoid, NamesNoStruct, IsDefinedAgain, value_use, result_use, value_uses, step_uses}
 use Rattle.module_rules.specs.declared.type_uses.Uses.{Uses}
 use Rattle.module_rules.specs.First.{earliest}

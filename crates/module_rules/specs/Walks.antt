@@ -1,18 +1,10 @@
 -- How the indices of a `getelementptr` walk into a type.
 use Rattle.std.specs.Prelude.{ℤ, pos, negsuc, Bool, true, false, ◌&&◌, if◌then◌else◌, List, [], ◌∷◌, Option, Some, None, slice_get}
-use Rattle.oi_base.specs.declared.words.Width.TheVariants.{W32}
 use Rattle.ir_core.specs.declared.ty.TypeDef.{TypeDef}
-use Rattle.ir_core.specs.declared.ty.IrType.{IrType, Int, out-IrType}
+use Rattle.ir_core.specs.declared.ty.IrType.{IrType, out-IrType}
 use Rattle.ir_core.specs.declared.ty.IrType.TheOpen.{IrType-F}
+use Rattle.ir_core.specs.Types.{is_integer, is_word}
 use Rattle.ir_core.specs.ValidConsts.{Index, plain}
-
-abbrev pub is_integer : IrType → Bool
-is_integer (Int w) = true
-is_integer _ = false
-
-abbrev pub is_word : IrType → Bool
-is_word (Int W32) = true
-is_word _ = false
 
 -- the field of this number
 abbrev pub field_at : List IrType → Option ℤ → Option IrType
@@ -33,7 +25,7 @@ abbrev pub walks_from : Option IrType → (IrType → Bool) → Bool
 walks_from None on = false
 walks_from (Some u) on = on u
 
--- the indices behind the first
+-- the indices after the first
 abbrev pub walks_into : List TypeDef → IrType → List Index → Bool
 walks_into defs t [] = true
 walks_into defs t (i ∷ is) = walks_from (next defs t i) (λ u. walks_into defs u is)

@@ -1,5 +1,5 @@
 ghost use Rattle.std.specs.Prelude.{◌≡◌};
-ghost use Rattle.ir_core.specs.Stands.{is_up_to};
+ghost use Rattle.ir_core.specs.Operands.{is_up_to};
 ghost use Rattle.module_rules.specs.First.{earlier, earliest};
 ghost use Rattle.module_rules.specs.Faults.{place_if};
 

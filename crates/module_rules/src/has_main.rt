@@ -5,7 +5,6 @@ ghost use Rattle.ir_core.specs.ValidModule.{BreaksMain};
 ghost use Rattle.module_rules.specs.First.{IsFound};
 ghost use Rattle.module_rules.specs.HasMain.{is_empty, is_good_main};
 
-use crate::walk::is_word;
 use ir_core::{Func, Module, Param};
 use oi_base::{Items, Place};
 
@@ -34,7 +33,7 @@ fn has_main(m: &Module) -> bool
 fn is_good_main(m: &Module, func: &Func) -> bool
     ensures { result ≡ is_good_main m.now func.now }
 {
-    is_main(m, func) && !func.internal && is_empty(&func.params) && is_word(&func.result)
+    is_main(m, func) && !func.internal && is_empty(&func.params) && func.result.is_word()
 }
 
 /// Whether a function's name is `main`.

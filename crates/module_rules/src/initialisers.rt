@@ -7,7 +7,7 @@ ghost use Rattle.module_rules.specs.Faults.{global_numbers};
 ghost use Rattle.module_rules.specs.InitFaults.{is_byte, is_string, is_array_of, is_struct_of, is_among, has_type, is_item, are_fields_of, init_faults};
 
 use crate::first::earlier_if;
-use crate::integers::{counts_fit, fits_type, is_bit, is_pointer};
+use crate::integers::{counts_fit, fits_type};
 use crate::numbers::Numbers;
 use crate::same_types::same_type;
 use crate::variables::global_numbers;
@@ -45,12 +45,12 @@ fn has_type(defs: &TypeDefs, names: &Numbers, constant: &Const, t: &IrType) -> b
     match constant {
         Const::Undef | Const::Poison | Const::Zero => true,
         Const::Int(number) => fits_type(plain, *number),
-        Const::Bool(_) => is_bit(plain),
-        Const::Null => is_pointer(plain),
+        Const::Bool(_) => plain.is_bit(),
+        Const::Null => plain.is_pointer(),
         Const::Bytes(text) => is_string(text.len(), plain),
-        Const::Address(name) => is_pointer(plain) && is_among(names, *name),
+        Const::Address(name) => plain.is_pointer() && is_among(names, *name),
         Const::Gep(source, name, indices) => {
-            is_pointer(plain)
+            plain.is_pointer()
                 && is_among(names, *name)
                 && const_walks(defs, source, indices.as_slice())
                 && counts_fit(indices.as_slice())

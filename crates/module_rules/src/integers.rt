@@ -1,7 +1,7 @@
 ghost use Rattle.std.specs.Prelude.{◌≡◌, pos};
 ghost use Rattle.oi_base.specs.Words.{modulus};
 ghost use Rattle.std.specs.List.{list_all};
-ghost use Rattle.module_rules.specs.Faults.{fits, fits_type, is_bit, is_pointer, count_fits};
+ghost use Rattle.module_rules.specs.Faults.{fits, fits_type, count_fits};
 
 use ir_core::{IrType, TypedCount};
 use oi_base::Width;
@@ -23,20 +23,6 @@ pub fn count_fits(count: &TypedCount) -> bool
     ensures { result ≡ count_fits count.now }
 {
     fits_type(&count.ty, count.count)
-}
-
-/// Whether a type is `i1`.
-pub fn is_bit(t: &IrType) -> bool
-    ensures { result ≡ is_bit t.now }
-{
-    matches!(t, IrType::Int(Width::W1))
-}
-
-/// Whether a type is `ptr`.
-pub fn is_pointer(t: &IrType) -> bool
-    ensures { result ≡ is_pointer t.now }
-{
-    matches!(t, IrType::Ptr)
 }
 
 /// Whether a type is an integer type that a number fits.

@@ -2,7 +2,8 @@ ghost use Rattle.std.specs.Prelude.{◌<◌, Option};
 ghost use Rattle.oi_base.specs.declared.ids.Place.{Place as places};
 ghost use Rattle.ir_core.specs.declared.module.Module as modules;
 ghost use Rattle.ir_core.specs.Proper.{IsProper};
-ghost use Rattle.ir_core.specs.FirstBroken.{ModuleRule, module_rule, BreaksModule};
+ghost use Rattle.ir_core.specs.declared.rule.ModuleRule.{ModuleRule};
+ghost use Rattle.ir_core.specs.FirstBroken.{module_rule, BreaksModule};
 ghost use Rattle.module_rules.specs.First.{IsFound};
 
 /// Each rule of a proper module as a whole is decided, where those of lower numbers are met: it is broken nowhere, or first at

@@ -3,7 +3,6 @@
 #![tactic(auto)]
 
 pub mod alignments;
-mod components;
 mod cycles;
 mod first;
 pub mod has_main;
@@ -18,6 +17,7 @@ mod struct_names;
 pub mod symbols;
 pub mod target;
 pub mod totals;
+mod type_graph;
 pub mod type_names;
 mod type_parts;
 mod type_uses;
@@ -25,9 +25,9 @@ mod variables;
 mod walk;
 
 pub use first::{earlier, earlier_if, is_up_to};
-pub use integers::{count_fits, counts_fit, fits_type, is_bit, is_pointer, words};
+pub use integers::{count_fits, counts_fit, fits_type, words};
 pub use laws::a_rule_of_a_module_is_decided;
 pub use numbers::Numbers;
 pub use same_types::{same_type, same_width};
 pub use variables::global_numbers;
-pub use walk::{const_walks, is_integer, is_word, next_by, walks};
+pub use walk::{const_walks, next_by, walks};

@@ -12,7 +12,7 @@ pub fn size_up_to(m: &Module, t: &IrType) -> u32
     }
     match size_of(m, t) {
         Ok(size) => size,
-        Err(_) => 16_777_217,
+        Err(_) => LARGEST + 1,
     }
 }
 

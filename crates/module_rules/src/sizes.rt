@@ -12,11 +12,14 @@ use crate::first::earlier_if;
 use crate::measure::{is_above, size_up_to};
 use crate::type_parts::names_in;
 use ir_core::{
-    Block, Const, End, Func, GlobalVar, IrType, Module, Op, Operand, Pair, SwitchCase, TypeDef,
-    TypeDefs, TypeName, TypedConst, TypedOperand,
+    Block, Const, End, Func, GlobalVar, IrType, LARGEST, Module, Op, Operand, Pair, SwitchCase,
+    TypeDef, TypeDefs, TypeName, TypedConst, TypedOperand,
 };
 use oi_base::{Items, NoMemory, Place};
 use std::alloc::Global;
+
+/// The largest size of a type.
+const MOST_BYTES: i128 = LARGEST as i128;
 
 /// The first global, alloca or `getelementptr`, a constant one too, of a type that has more than 16,777,216 bytes or in which
 /// such a type stands, or alloca of more bytes. Its condition is that the rule of type names is broken nowhere.
@@ -228,7 +231,7 @@ fn count_is_above(count: i128, size: u32) -> bool
     if count <= 0 || size == 0 {
         return false;
     }
-    count > 16_777_216 || count * i128::from(size) > 16_777_216
+    count > MOST_BYTES || count * i128::from(size) > MOST_BYTES
 }
 
 fn op_values_are_too_large(m: &Module, small: &TypeDefs, op: &Op) -> bool

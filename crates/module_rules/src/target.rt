@@ -52,12 +52,12 @@ fn has_part(part: &[u8], text: &[u8]) -> bool
 {
     let mut rest = text;
     let mut begins = true;
-    while let [first, behind @ ..] = rest {
+    while let [first, after @ ..] = rest {
         if begins && is_part_here(part, rest) {
             return true;
         }
         begins = *first == b'-';
-        rest = behind;
+        rest = after;
     }
     begins && is_part_here(part, rest)
 }

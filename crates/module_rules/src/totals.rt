@@ -9,15 +9,12 @@ ghost use Rattle.module_rules.specs.TotalFaults.{name_size, sized, sized_names, 
 
 use crate::first::{earlier, earlier_if};
 use crate::measure::{align_or_least, size_up_to};
-use ir_core::{Func, GlobalVar, Module, SymId};
+use ir_core::{Func, GlobalVar, MOST_DATA, MOST_NAME_BYTES, Module, NAME_EXTRA, SymId};
 use oi_base::{NoMemory, Place};
 use std::alloc::{AllocError, Global};
 
-/// The most bytes of data.
-const MOST_DATA: u64 = 1_048_576;
-
-/// The most bytes of names.
-const MOST_NAMES: usize = 67_108_864;
+/// Where the data end at most.
+const DATA_END: u64 = MOST_DATA as u64;
 
 /// A name of a global or of a definition: where it is introduced, and the bytes that it adds to the sum.
 #[derive(Clone, Copy, PartialEq, Eq, PartialOrd, Ord)]
@@ -31,7 +28,7 @@ struct Name {
 pub fn first_break(alloc: Global, m: &Module) -> Result<Option<Place>, NoMemory>
     ensures found { IfOk result (IsFound (BreaksTotals m.now)) }
 {
-    let names = first_past_names(alloc, m, MOST_NAMES)?;
+    let names = first_past_names(alloc, m, MOST_NAME_BYTES as usize)?;
     Ok(earlier_of(first_past_data(m), names))
 }
 
@@ -53,18 +50,18 @@ fn first_past_data(m: &Module) -> Option<Place>
     let mut first = None;
     for global in m.globals.as_slice() {
         end = end_with(m, end, global);
-        first = earlier_if(first, end > MOST_DATA, global.place);
+        first = earlier_if(first, end > DATA_END, global.place);
     }
     first
 }
 
-/// Where the data end with one global more, or one byte behind the most where that is further.
+/// Where the data end with one global more, or one byte after the most where that is further.
 fn end_with(m: &Module, end: u64, global: &GlobalVar) -> u64
     requires { end ≤ 1048577 }
     ensures { result ≡ min (next_multiple_of end (global_align m.now.types.defs global.now) + min (size m.now.types.defs global.now.ty) 16777217) 1048577 }
 {
     let start = round_up(end, global_align(m, global));
-    (start + u64::from(size_up_to(m, &global.ty))).min(MOST_DATA + 1)
+    (start + u64::from(size_up_to(m, &global.ty))).min(DATA_END + 1)
 }
 
 /// The next multiple of `align` that is not below `end`.
@@ -137,8 +134,8 @@ fn name_size(m: &Module, name: SymId) -> usize
     ensures { result ≡ name_size m.now name }
 {
     match m.symbols.get(name.0 as usize) {
-        Some(text) => text.as_slice().len() + 17,
-        None => 17,
+        Some(text) => text.as_slice().len() + NAME_EXTRA as usize,
+        None => NAME_EXTRA as usize,
     }
 }
 

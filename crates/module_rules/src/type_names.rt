@@ -30,7 +30,7 @@ fn first_wrong_use(alloc: Global, m: &Module) -> Result<Option<Place>, NoMemory>
     defined_again(alloc, uses.first(), uses.used(), m.types.defs.as_slice())
 }
 
-/// The earlier of a place and the first definition of a used name that stands behind another.
+/// The earlier of a place and the first definition of a used name that stands after another.
 fn defined_again(
     alloc: Global,
     before: Option<Place>,

@@ -15,7 +15,7 @@ pub fn names_in(alloc: Global, t: &IrType) -> Result<Vec<TypeName>, AllocError>
     Ok(names)
 }
 
-/// Puts the names that stand in a type behind others.
+/// Puts the names that stand in a type after others.
 #[cycle(names)]
 fn push_names(to: &mut Vec<TypeName>, t: &IrType) -> Result<(), AllocError>
     ensures { OnOk result (to.new.items ≡ to.old.items ++ names_in_type t.now) }

@@ -1,7 +1,7 @@
 ghost use Rattle.std.specs.Prelude.{◌≡◌, ◌∷◌, ◌++◌, [], map, IfOk, OnOk};
 ghost use Rattle.std.specs.List.{flat_map, list_all};
 ghost use Rattle.ir_core.specs.Parts.{count_type, types_of, values_of, op_values, end_types, end_values, const_types};
-ghost use Rattle.ir_core.specs.Stands.{Does, Ends};
+ghost use Rattle.ir_core.specs.Operands.{Does, Ends};
 ghost use Rattle.ir_core.specs.ValidTypes.{value_use, value_uses, op_uses, types_in_values, step_uses};
 ghost use Rattle.module_rules.specs.Faults.{with_numbers};
 ghost use Rattle.module_rules.specs.TypeFaults.{state, is_laid_name, type_number, is_bad_use, with_use, with_uses, no_uses, def_use, global_uses, code_uses, block_uses, func_uses_by_block, uses_of, typed_const_types};

@@ -1,26 +1,11 @@
 ghost use Rattle.std.specs.Prelude.{◌≡◌, map};
 ghost use Rattle.std.specs.Option.{option_copied};
 ghost use Rattle.ir_core.specs.ValidConsts.{number_of, index_of, const_index};
-ghost use Rattle.module_rules.specs.Walks.{is_integer, is_word, field_at, next, walks_into, walks};
+ghost use Rattle.module_rules.specs.Walks.{field_at, next, walks_into, walks};
 
 use ir_core::{Const, IrType, Operand, TypeDefs, TypedCount, TypedOperand};
-use oi_base::Width;
 
-/// Whether it is an integer type.
-pub fn is_integer(t: &IrType) -> bool
-    ensures { result ≡ is_integer t.now }
-{
-    matches!(t, IrType::Int(_))
-}
-
-/// Whether it is `i32`.
-pub fn is_word(t: &IrType) -> bool
-    ensures { result ≡ is_word t.now }
-{
-    matches!(t, IrType::Int(Width::W32))
-}
-
-/// Whether the indices of a `getelementptr` are integers, and those behind the first walk into the source type: into an
+/// Whether the indices of a `getelementptr` are integers, and those after the first walk into the source type: into an
 /// array by any, and into a struct by a constant `i32` that is a field's number.
 pub fn walks(defs: &TypeDefs, source: &IrType, indices: &[TypedOperand]) -> bool
     ensures { result ≡ walks defs.now source.now (map index_of indices.now) }
@@ -28,7 +13,7 @@ pub fn walks(defs: &TypeDefs, source: &IrType, indices: &[TypedOperand]) -> bool
     if indices.is_empty() {
         return true;
     }
-    is_integer(&indices[0].ty) && walks_into(defs, source, &indices[1..])
+    indices[0].ty.is_integer() && walks_into(defs, source, &indices[1..])
 }
 
 fn walks_into(defs: &TypeDefs, source: &IrType, indices: &[TypedOperand]) -> bool
@@ -51,7 +36,7 @@ pub fn const_walks(defs: &TypeDefs, source: &IrType, indices: &[TypedCount]) -> 
     if indices.is_empty() {
         return true;
     }
-    is_integer(&indices[0].ty) && const_walks_into(defs, source, &indices[1..])
+    indices[0].ty.is_integer() && const_walks_into(defs, source, &indices[1..])
 }
 
 fn const_walks_into(defs: &TypeDefs, source: &IrType, indices: &[TypedCount]) -> bool
@@ -83,12 +68,12 @@ fn next<'a>(
 ) -> Option<&'a IrType>
     ensures { option_copied result ≡ next defs.now t.now (record { ty = ty.now; number = number }) }
 {
-    if !is_integer(ty) {
+    if !ty.is_integer() {
         return None;
     }
     match defs.resolved(t) {
         IrType::Array(_, item) => Some(item.get()),
-        IrType::Struct(fields) if is_word(ty) => field_at(fields.as_slice(), number),
+        IrType::Struct(fields) if ty.is_word() => field_at(fields.as_slice(), number),
         _ => None,
     }
 }

@@ -1,5 +1,5 @@
 ghost use Rattle.std.specs.Prelude.{◌≡◌, ◌%◌};
-ghost use Rattle.oi_base.specs.Words.{modulus, signed_of, word_of};
+ghost use Rattle.oi_base.specs.Words.{bits, modulus, signed_of, word_of};
 
 /// The width of an integer type, in bits.
 #[derive(Clone, Copy, Debug, PartialEq, Eq, PartialOrd, Ord, Hash)]
@@ -8,6 +8,20 @@ pub enum Width {
     W8,
     W16,
     W32,
+}
+
+impl Width {
+    /// How many bits it has.
+    pub fn bits(self) -> u32
+        ensures { result ≡ bits self }
+    {
+        match self {
+            Width::W1 => 1,
+            Width::W8 => 8,
+            Width::W16 => 16,
+            Width::W32 => 32,
+        }
+    }
 }
 
 /// The low bits of a word: the word of this width that is equal to it modulo two to the width.

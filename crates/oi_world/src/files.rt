@@ -5,7 +5,8 @@ ghost use Rattle.oi_world.specs.Desk.{HasCause, GivesRead};
 ghost use Rattle.oi_world.specs.Mem.{files_of};
 
 use crate::desk::DeskFault;
-use std::alloc::{AllocError, Global};
+use oi_base::NoMemory;
+use std::alloc::Global;
 use std::collections::BTreeMap;
 
 /// What a name holds.
@@ -33,7 +34,13 @@ pub fn read(
         return Err(DeskFault::Absent);
     };
     let end = bytes.len().min(limit as usize + 1);
-    Ok(Vec::from_slice(alloc, &bytes[..end])?)
+    Ok(copied(alloc, &bytes[..end])?)
+}
+
+fn copied(alloc: Global, bytes: &[u8]) -> Result<Vec<u8>, NoMemory>
+    ensures { IfOk result (λ copy. copy.items ≡ bytes.now) }
+{
+    Ok(Vec::from_slice(alloc, bytes)?)
 }
 
 /// Makes a name hold these bytes.
@@ -42,7 +49,7 @@ pub fn store(
     files: &mut BTreeMap<String, Vec<u8>>,
     name: &str,
     bytes: &[u8],
-) -> Result<(), AllocError>
+) -> Result<(), NoMemory>
     ensures ok { OnOk result (files_of files.new ≡ finite.insert (files_of files.old) name.now bytes.now) }
     ensures err { OnErr result (files_of files.new ≡ files_of files.old) }
 {

@@ -1,4 +1,4 @@
-ghost use Rattle.std.specs.Prelude.{◌≡◌, ◌<◌, ◌≤◌, ◌+◌, ◌↔◌, [], IsTrue, IsErrOf, IfOk, OnOk, OnErr, Some, Contains, vec_len};
+ghost use Rattle.std.specs.Prelude.{◌≡◌, ◌<◌, ◌≤◌, ◌+◌, ◌++◌, ◌↔◌, [], IsTrue, IsErrOf, IfOk, OnOk, OnErr, Some, Contains, vec_len};
 ghost use Rattle.std.specs.Option.{option_map};
 ghost use Rattle.std.specs.FinMap as finite;
 ghost use Rattle.oi_world.specs.Desk.{HasCause, GivesRead, Writes, Says};
@@ -10,7 +10,7 @@ use std::alloc::Global;
 use std::collections::BTreeMap;
 use std::marker::Model;
 
-/// A desk in memory, for tests. It tells everything, and fails at the calls that it is told to fail at.
+/// A desk in memory, for tests. It says everything, and fails at the calls that are listed.
 #[derive(Drop)]
 pub struct MemDesk {
     alloc: Global,
@@ -58,8 +58,7 @@ impl MemDesk {
         ensures ok { OnOk result (self.new ≡ record self.old { files = finite.insert self.old.files name.now bytes.now }) }
         ensures err { OnErr result (self.new ≡ self.old) }
     {
-        files::store(self.alloc, &mut self.files, name, bytes)?;
-        Ok(())
+        files::store(self.alloc, &mut self.files, name, bytes)
     }
 
     /// What a name holds; `None` exactly where the name isn't there.
@@ -76,9 +75,17 @@ impl MemDesk {
         self.said.as_slice()
     }
 
+    fn push_said(&mut self, bytes: &[u8]) -> Result<(), NoMemory>
+        ensures ok { OnOk result (self.new ≡ record self.old { said = self.old.said ++ bytes.now }) }
+        ensures err { OnErr result (self.new ≡ self.old) }
+    {
+        self.said.extend_from_slice(bytes)?;
+        Ok(())
+    }
+
     /// Counts the call that begins, and says whether it is to fail.
     fn begin(&mut self) -> bool
-        requires { self.old.faults < 18446744073709551615 }
+        requires { self.old.faults < u64.MAX }
         ensures fails { IsTrue result ↔ Contains self.old.fails (next_call self.old) }
         ensures begun { self.new ≡ begun self.old result }
     {
@@ -107,7 +114,7 @@ impl Desk for MemDesk {
     ghost faults = { λ d. d.faults };
 
     fn read(&mut self, alloc: Global, name: &str, limit: u32) -> Result<Vec<u8>, DeskFault>
-        requires { self.old.faults < 18446744073709551615 }
+        requires { self.old.faults < u64.MAX }
         ensures found { GivesRead (Some self.old.files) name.now limit result }
         ensures short { IfOk result (λ bytes. vec_len bytes ≤ limit + 1) }
         ensures files { Some self.new.files ≡ Some self.old.files }
@@ -123,7 +130,7 @@ impl Desk for MemDesk {
     }
 
     fn write(&mut self, name: &str, bytes: &[u8]) -> Result<(), DeskFault>
-        requires { self.old.faults < 18446744073709551615 }
+        requires { self.old.faults < u64.MAX }
         ensures files { Writes name.now bytes.now (Some self.old.files) (Some self.new.files) result }
         ensures said { Some self.new.said ≡ Some self.old.said }
         ensures cause { HasCause self.old.faults self.new.faults result }
@@ -138,7 +145,7 @@ impl Desk for MemDesk {
     }
 
     fn say(&mut self, bytes: &[u8]) -> Result<(), DeskFault>
-        requires { self.old.faults < 18446744073709551615 }
+        requires { self.old.faults < u64.MAX }
         ensures files { Some self.new.files ≡ Some self.old.files }
         ensures said { Says bytes.now (Some self.old.said) (Some self.new.said) result }
         ensures cause { HasCause self.old.faults self.new.faults result }
@@ -148,7 +155,7 @@ impl Desk for MemDesk {
         if self.begin() {
             return Err(DeskFault::Failed);
         }
-        self.said.extend_from_slice(bytes)?;
+        self.push_said(bytes)?;
         Ok(())
     }
 }

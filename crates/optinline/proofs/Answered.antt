@@ -3,26 +3,27 @@ use Rattle.std.proofs.Common.{◌≡◌, ◌≢◌, ℕ, List, [], ◌++◌, app
 use Rattle.std.specs.Prelude.{codes, decimal}
 use Rattle.oi_base.specs.declared.ids.Place.{Place}
 use Rattle.ir_core.specs.FirstBroken.{IsFirstPlace}
+use Rattle.optinline.specs.declared.status.TheConstants.{DONE, REFUSED, NOT_BUILT}
 use Rattle.optinline.specs.declared.body.Body.{Body}
 use Rattle.optinline.specs.Words.{Words}
 use Rattle.optinline.specs.Answer.{refusal, refused, not_yet, built}
 
-pub refused_status : (p : Place) (cause : List ℕ) → (refused p cause).status ≡ 4
+pub refused_status : (p : Place) (cause : List ℕ) → (refused p cause).status ≡ REFUSED
 unfolding refused
 refused_status p cause = refl
 
-behind : (x a b c d : List ℕ) → (((x ++ a) ++ b) ++ c) ++ d ≡ x ++ (a ++ (b ++ (c ++ d)))
-behind x a b c d = append_assoc ((x ++ a) ++ b) c d ∙ append_assoc (x ++ a) b (c ++ d) ∙ append_assoc x a (b ++ (c ++ d))
+after : (x a b c d : List ℕ) → (((x ++ a) ++ b) ++ c) ++ d ≡ x ++ (a ++ (b ++ (c ++ d)))
+after x a b c d = append_assoc ((x ++ a) ++ b) c d ∙ append_assoc (x ++ a) b (c ++ d) ∙ append_assoc x a (b ++ (c ++ d))
 
-pub not_yet_is : (p : Place) → refusal 13 (codes "not built " ++ (decimal p.line ++ (codes ":" ++ (decimal p.column ++ codes "\n")))) ≡ not_yet p
+pub not_yet_is : (p : Place) → refusal NOT_BUILT (codes "not built " ++ (decimal p.line ++ (codes ":" ++ (decimal p.column ++ codes "\n")))) ≡ not_yet p
 unfolding not_yet
-not_yet_is p = ap (refusal 13) (sym (behind (codes "not built ") (decimal p.line) (codes ":") (decimal p.column) (codes "\n")))
+not_yet_is p = ap (refusal NOT_BUILT) (sym (after (codes "not built ") (decimal p.line) (codes ":") (decimal p.column) (codes "\n")))
 
-pub not_yet_status : (p : Place) → (not_yet p).status ≡ 13
+pub not_yet_status : (p : Place) → (not_yet p).status ≡ NOT_BUILT
 unfolding not_yet
 not_yet_status p = refl
 
-pub built_status : (w : Words) (b : Body) → (built w b).status ≡ 0
+pub built_status : (w : Words) (b : Body) → (built w b).status ≡ DONE
 unfolding built
 built_status w b = refl
 

@@ -24,6 +24,7 @@ use Rattle.ir_reader.specs.Refusals.{ReadsWithin, ExceedsNone, IsRefusal}
 use Rattle.ir_verifier.proofs.OneVerdict.{one_first, one_first_broken, broken_not_valid}
 use Rattle.ir_verifier.proofs.VerdictDecided.{verdict}
 use Rattle.module_rules.specs.First.{earliest, IsFound}
+use Rattle.optinline.specs.declared.status.TheConstants.{NO_COMMAND, TOO_LONG, ABSENT}
 use Rattle.optinline.specs.Words.{Words, command_of}
 use Rattle.optinline.specs.MainBody.{main_body}
 use Rattle.optinline.specs.Unbuilt.{unbuilt}
@@ -31,6 +32,7 @@ use Rattle.optinline.specs.Answer.{Answer, refusal, refused, rule_word, not_yet,
 use Rattle.optinline.proofs.Answered.{first_of_some}
 use Rattle.optinline.proofs.FirstUnbuilt.{first_place}
 use Rattle.optinline.proofs.Refusals.{refusal_said, refusal_none, one_within, read_proper}
+use Rattle.ir_core.specs.declared.limits.TheConstants.{MOST_SITES}
 
 -- ---- there is one
 
@@ -85,12 +87,12 @@ module _ (words : Words) where
     at_limit at w e = let x = exceeded_place bytes at w e in to_unread (faults.Limit x.2.place w) (λ z. cc) (inl (x.0, x.1, x.2, x.4, refl))
 
     at_module : (m : Module) → ReadsWithinLimits bytes m → (a : Answer) × IsModuleAnswer words bytes a
-    at_module m h = by_site (slice_get (all_sites m.funcs) 4096) refl
+    at_module m h = by_site (slice_get (all_sites m.funcs) MOST_SITES) refl
       where
-        by_site : (o : Option Site) → slice_get (all_sites m.funcs) 4096 ≡ o → (a : Answer) × IsModuleAnswer words bytes a
+        by_site : (o : Option Site) → slice_get (all_sites m.funcs) MOST_SITES ≡ o → (a : Answer) × IsModuleAnswer words bytes a
         by_site (Some s) e = to_unread (faults.Limit s.place limits.Sites) (λ z. cc) (inr (refl, (m, h, s, e, refl)))
         by_site None e =
-            let within : ReadsWithin bytes m = (h, few (all_sites m.funcs) 4096 e) in
+            let within : ReadsWithin bytes m = (h, few (all_sites m.funcs) MOST_SITES e) in
             let a = to_read m (read_proper bytes m within) in
             (a.0, read m within a.1)
           where
@@ -110,16 +112,16 @@ module _ (words : Words) where
             by_why Refused at z = at_token at z
             by_why (Exceeds w) at z = at_limit at w z
 
-  to_bytes : (bytes : List ℕ) (long : Bool) → (a : Answer) × MatchBool long (a ≡ refusal 9 (codes "too long " ++ words.«module» ++ codes "\n")) (IsModuleAnswer words bytes a)
-  to_bytes bytes true = (refusal 9 (codes "too long " ++ words.«module» ++ codes "\n"), refl)
+  to_bytes : (bytes : List ℕ) (long : Bool) → (a : Answer) × MatchBool long (a ≡ refusal TOO_LONG (codes "too long " ++ words.«module» ++ codes "\n")) (IsModuleAnswer words bytes a)
+  to_bytes bytes true = (refusal TOO_LONG (codes "too long " ++ words.«module» ++ codes "\n"), refl)
   to_bytes bytes false = to_module bytes
 
   to_file : (file : Option (List ℕ)) → (a : Answer) × IsFileAnswer words file a
-  to_file None = (refusal 18 (codes "absent " ++ words.«module» ++ codes "\n"), refl)
+  to_file None = (refusal ABSENT (codes "absent " ++ words.«module» ++ codes "\n"), refl)
   to_file (Some bytes) = to_bytes bytes (nat_lt module_limit (length bytes))
 
 to_command : (command : Option Words) (files : Files) → (a : Answer) × IsCommandAnswer command files a
-to_command None files = (refusal 2 (codes "words\n"), refl)
+to_command None files = (refusal NO_COMMAND (codes "words\n"), refl)
 to_command (Some words) files = to_file words (finite.get files words.«module»)
 
 pub an_answer_to : (words : List (List ℕ)) (files : Files) → (a : Answer) × IsAnswer words files a
@@ -154,7 +156,7 @@ same_on_length words bytes false t a b e f = same_on_module words bytes a b e f
 
 same_on_file : (words : Words) (file : Option (List ℕ)) (a b : Answer) → IsFileAnswer words file a → IsFileAnswer words file b → a ≡ b
 same_on_file words None a b e f = e ∙ sym f
-same_on_file words (Some bytes) a b e f = same_on_length words bytes (nat_lt module_limit (length bytes)) (refusal 9 (codes "too long " ++ words.«module» ++ codes "\n")) a b e f
+same_on_file words (Some bytes) a b e f = same_on_length words bytes (nat_lt module_limit (length bytes)) (refusal TOO_LONG (codes "too long " ++ words.«module» ++ codes "\n")) a b e f
 
 same_on_command : (command : Option Words) (files : Files) (a b : Answer) → IsCommandAnswer command files a → IsCommandAnswer command files b → a ≡ b
 same_on_command None files a b e f = e ∙ sym f

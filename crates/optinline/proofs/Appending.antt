@@ -1,4 +1,4 @@
--- The code of operations, one behind another, as a loop appends it.
+-- The code of operations, one after another, as a loop appends it.
 use Rattle.std.proofs.Common.{◌≡◌, ℕ, ◌+◌, ◌<◌, ◌≤◌, List, [], ◌∷◌, ◌++◌, length, get_or, drop, refl, sym, ap, ◌∙◌, append_assoc, add-one, drop-cons}
 use Rattle.std.proofs.lemmas.List.{drop_all, append-nil}
 use Rattle.rv_isa.specs.declared.rv.Rv.{Rv}

@@ -80,7 +80,7 @@ up_to_length n (m ∷ ms) = by_test (nat_eq n m) (up_to_length n ms)
     by_test true h = omega arith
     by_test false h = omega (arith, h)
 
--- a number that isn't among some stands behind them all
+-- a number that isn't among some stands after them all
 pub not_among : (n : ℕ) (ns : List ℕ) → position (nat_eq n) ns ≡ None → length ns ≡ position_or_len (nat_eq n) ns
 not_among n ns e = by_test (nat_lt (position_or_len (nat_eq n) ns) (length ns)) refl e
   where

@@ -7,6 +7,7 @@ use Rattle.oi_world.specs.Desk.{Files}
 use Rattle.ir_core.specs.declared.module.Module.{Module}
 use Rattle.ir_core.specs.Valid.{IsValid}
 use Rattle.ir_reader.specs.Refusals.{ReadsWithin}
+use Rattle.optinline.specs.declared.status.TheConstants.{DONE, NO_COMMAND, REFUSED, TOO_LONG, NOT_BUILT, ABSENT}
 use Rattle.optinline.specs.Words.{Words, command_of}
 use Rattle.optinline.specs.MainBody.{main_body}
 use Rattle.optinline.specs.Unbuilt.{unbuilt}
@@ -22,7 +23,7 @@ not_so : {p q : Type 0} → (p → ⊥) → (q → ⊥) → Iff p q
 not_so f g = (λ x. absurd (f x), λ y. absurd (g y))
 
 module _ (words : List (List ℕ)) (files : Files) (a : Answer) where
-  on_no_command : command_of words ≡ None → a.status ≡ 2 → HasCauses words files a.status
+  on_no_command : command_of words ≡ None → a.status ≡ NO_COMMAND → HasCauses words files a.status
   on_no_command e s = record {
     no_command = yes s e;
     absent = not_so (λ t. omega (arith, s, t)) (λ x. let k = x.command in cc);
@@ -36,7 +37,7 @@ module _ (words : List (List ℕ)) (files : Files) (a : Answer) where
   same_file : (w v : Words) (f g : Option (List ℕ)) → command_of words ≡ Some w → command_of words ≡ Some v → finite.get files w.«module» ≡ f → finite.get files v.«module» ≡ g → f ≡ g
   same_file w v f g e h p q = let same : w ≡ v = cc in sym p ∙ ap (λ (x : Words). finite.get files x.«module») same ∙ q
 
-  on_absent : (w : Words) → command_of words ≡ Some w → finite.get files w.«module» ≡ None → a.status ≡ 18 → HasCauses words files a.status
+  on_absent : (w : Words) → command_of words ≡ Some w → finite.get files w.«module» ≡ None → a.status ≡ ABSENT → HasCauses words files a.status
   on_absent w e f s = record {
     no_command = not_so (λ t. omega (arith, s, t)) (λ x. cc);
     absent = yes s (record { build = w; command = e; file = f });
@@ -53,7 +54,7 @@ module _ (words : List (List ℕ)) (files : Files) (a : Answer) where
   same_length : (w v : Words) (xs ys : List ℕ) → command_of words ≡ Some w → command_of words ≡ Some v → finite.get files w.«module» ≡ Some xs → finite.get files v.«module» ≡ Some ys → length xs ≡ length ys
   same_length w v xs ys e h p q = ap (λ (x : List ℕ). length x) (same_bytes w v xs ys e h p q)
 
-  on_long : (w : Words) (bytes : List ℕ) → command_of words ≡ Some w → finite.get files w.«module» ≡ Some bytes → module_limit < length bytes → a.status ≡ 9 → HasCauses words files a.status
+  on_long : (w : Words) (bytes : List ℕ) → command_of words ≡ Some w → finite.get files w.«module» ≡ Some bytes → module_limit < length bytes → a.status ≡ TOO_LONG → HasCauses words files a.status
   on_long w bytes e f long s = record {
     no_command = not_so (λ t. omega (arith, s, t)) (λ x. cc);
     absent = not_so (λ t. omega (arith, s, t)) (λ x. let k = same_file w x.build _ _ e x.command f x.file in cc);
@@ -67,7 +68,7 @@ module _ (words : List (List ℕ)) (files : Files) (a : Answer) where
   same_module : (w : Words) (bytes : List ℕ) (m n : Module) → command_of words ≡ Some w → finite.get files w.«module» ≡ Some bytes → ReadsWithin bytes m → IsBuildOf words files n → n ≡ m
   same_module w bytes m n e f h x = one_within bytes n m (subst (λ (y : List ℕ). ReadsWithin y n) (sym (same_bytes w x.build _ _ e x.command f x.file)) x.read) h
 
-  on_refused : (w : Words) (bytes : List ℕ) → command_of words ≡ Some w → finite.get files w.«module» ≡ Some bytes → length bytes ≤ module_limit → ((m : Module) → ReadsWithin bytes m → IsValid m → ⊥) → a.status ≡ 4 → HasCauses words files a.status
+  on_refused : (w : Words) (bytes : List ℕ) → command_of words ≡ Some w → finite.get files w.«module» ≡ Some bytes → length bytes ≤ module_limit → ((m : Module) → ReadsWithin bytes m → IsValid m → ⊥) → a.status ≡ REFUSED → HasCauses words files a.status
   on_refused w bytes e f short none s = record {
     no_command = not_so (λ t. omega (arith, s, t)) (λ x. cc);
     absent = not_so (λ t. omega (arith, s, t)) (λ x. let k = same_file w x.build _ _ e x.command f x.file in cc);
@@ -84,7 +85,7 @@ module _ (words : List (List ℕ)) (files : Files) (a : Answer) where
     abbrev build_of : IsValid m → IsBuildOf words files m
     build_of v = record { build = w; bytes = bytes; command = e; file = f; short = short; read = h; valid = v }
 
-    on_not_built : IsValid m → unbuilt m ≢ [] → a.status ≡ 13 → HasCauses words files a.status
+    on_not_built : IsValid m → unbuilt m ≢ [] → a.status ≡ NOT_BUILT → HasCauses words files a.status
     on_not_built v some s = record {
       no_command = not_so (λ t. omega (arith, s, t)) (λ x. cc);
       absent = not_so (λ t. omega (arith, s, t)) (λ x. let k = same_file w x.build _ _ e x.command f x.file in cc);
@@ -94,7 +95,7 @@ module _ (words : List (List ℕ)) (files : Files) (a : Answer) where
       accepted = not_so (λ t. omega (arith, s, t)) (λ x. some (sym (ap unbuilt (same_module w bytes m x.0 e f h x.1)) ∙ x.2));
     }
 
-    on_accepted : IsValid m → unbuilt m ≡ [] → a.status ≡ 0 → HasCauses words files a.status
+    on_accepted : IsValid m → unbuilt m ≡ [] → a.status ≡ DONE → HasCauses words files a.status
     on_accepted v all s = record {
       no_command = not_so (λ t. omega (arith, s, t)) (λ x. cc);
       absent = not_so (λ t. omega (arith, s, t)) (λ x. let k = same_file w x.build _ _ e x.command f x.file in cc);
@@ -117,7 +118,7 @@ module _ (words : List (List ℕ)) (files : Files) (a : Answer) where
   on_module w bytes e f short (read m h answer) = on_read w bytes m e f short h answer
 
   on_length : (w : Words) (bytes : List ℕ) (t : Bool) → command_of words ≡ Some w → finite.get files w.«module» ≡ Some bytes → nat_lt module_limit (length bytes) ≡ t
-      → MatchBool t (a ≡ refusal 9 (codes "too long " ++ w.«module» ++ codes "\n")) (IsModuleAnswer w bytes a) → HasCauses words files a.status
+      → MatchBool t (a ≡ refusal TOO_LONG (codes "too long " ++ w.«module» ++ codes "\n")) (IsModuleAnswer w bytes a) → HasCauses words files a.status
   on_length w bytes true e f l h = on_long w bytes e f (grind (arith, nat_tests)) (ap (λ (x : Answer). x.status) h)
   on_length w bytes false e f l h = on_module w bytes e f (grind (arith, nat_tests)) h
 

@@ -11,6 +11,7 @@ use Rattle.std.proofs.lemmas.List.{append-nil}
 use Rattle.std.proofs.lemmas.List.Elements.{All-cons}
 use Rattle.std.proofs.Math.Nat.{le_refl}
 use Rattle.oi_world.specs.Desk.{Files}
+use Rattle.elf_object.specs.declared.image.TheConstants.{LARGEST_DATA, LARGEST_TABLES}
 use Rattle.elf_object.specs.declared.symbol.Symbol.{Symbol}
 use Rattle.elf_object.specs.declared.symbol.SymKind.TheVariants.{Func}
 use Rattle.elf_object.specs.Image.{Parts, IsNamed, HasWords, IsImage, IsLocalFirst, string_table, symbol_table_size}
@@ -22,6 +23,8 @@ use Rattle.ir_core.specs.declared.module.Module.{Module}
 use Rattle.ir_core.specs.Proper.{IsProper}
 use Rattle.ir_core.specs.Valid.{IsValid}
 use Rattle.ir_reader.specs.Refusals.{ReadsWithin}
+use Rattle.optinline.specs.declared.body.TheConstants.{MOST_OPS}
+use Rattle.optinline.specs.declared.status.TheConstants.{DONE, NO_COMMAND, TOO_LONG, ABSENT}
 use Rattle.optinline.specs.declared.body.Body.{Body}
 use Rattle.optinline.specs.Lowering.{frame_size, size, main_code}
 use Rattle.optinline.specs.Executable.{image, main_function, object}
@@ -101,7 +104,7 @@ main_not_zero =
     let P : ℕ → Type 0 = λ b. b ≢ 0 in
     All-cons P 109 (97 ∷ 105 ∷ 110 ∷ []) (λ e. absurd (omega arith)) (All-cons P 97 (105 ∷ 110 ∷ []) (λ e. absurd (omega arith)) (All-cons P 105 (110 ∷ []) (λ e. absurd (omega arith)) (All-cons P 110 [] (λ e. absurd (omega arith)) (λ k d h. absurd (omega arith)))))
 
-module _ (b : Body) (few : length b.ops ≤ 400) where
+module _ (b : Body) (few : length b.ops ≤ MOST_OPS) where
   abbrev i : Parts
   i = image 16 (main_function b ∷ [])
 
@@ -129,10 +132,10 @@ module _ (b : Body) (few : length b.ops ≤ 400) where
         text_least = omega (arith, text_size);
         text_most = omega (arith, text_size);
         text_words = omega (arith, text_size);
-        data_most = subst (λ (d : List ℕ). length d ≤ 1048576) (sym no_data) (omega arith);
+        data_most = subst (λ (d : List ℕ). length d ≤ LARGEST_DATA) (sym no_data) (omega arith);
         named = subst (All IsNamed) (sym one_symbol) (All-cons IsNamed main_symbol [] (record { not_empty = omega arith; no_zero = main_not_zero }) (λ k d h. absurd (omega arith)));
         local_first = subst IsLocalFirst (sym one_symbol) (λ g k d h. absurd (omega arith), tt);
-        symbols_most = subst (λ ss. symbol_table_size ss + length (string_table ss) ≤ 1073741824) (sym one_symbol) (omega arith);
+        symbols_most = subst (λ ss. symbol_table_size ss + length (string_table ss) ≤ LARGEST_TABLES) (sym one_symbol) (omega arith);
       }
 
   symbol_words : All HasWords i.symbols
@@ -142,7 +145,7 @@ module _ (b : Body) (few : length b.ops ≤ 400) where
   -- ---- the files
 
 module _ (m : Module) (proper : IsProper m) (valid : IsValid m) (all : unbuilt m ≡ []) where
-  few : length (main_body m).ops ≤ 400
+  few : length (main_body m).ops ≤ MOST_OPS
   few = (main_defined m proper valid all).few
 
   does_as : DoesAs m (frame_size (length (main_body m).ops)) (object (main_body m)) (i (main_body m) few)
@@ -182,7 +185,7 @@ module _ (m : Module) (proper : IsProper m) (valid : IsValid m) (all : unbuilt m
           },
         )
 
-module _ (words : List (List ℕ)) (before : Files) (fs' : Option Files) (a : Answer) (zero : a.status ≡ 0) (left : fs' ≡ after_writes a.writes (Some before)) where
+module _ (words : List (List ℕ)) (before : Files) (fs' : Option Files) (a : Answer) (zero : a.status ≡ DONE) (left : fs' ≡ after_writes a.writes (Some before)) where
   abbrev Done : Type 0
   Done = (after : Files) × (fs' ≡ Some after) × Delivers words before after
 
@@ -205,21 +208,21 @@ module _ (words : List (List ℕ)) (before : Files) (fs' : Option Files) (a : An
     on_module (unread fault other h e) = absurd (refused_here (fault_place fault) (fault_word fault) e)
     on_module (read m within answer) = on_read m within answer
 
-  on_length : (w : Words) (bytes : List ℕ) (long : Bool) → command_of words ≡ Some w → finite.get before w.«module» ≡ Some bytes → MatchBool long (a ≡ refusal 9 (codes "too long " ++ w.«module» ++ codes "\n")) (IsModuleAnswer w bytes a) → Done
-  on_length w bytes true command file e = absurd (other_status 9 (codes "too long " ++ w.«module» ++ codes "\n") (omega arith) e)
+  on_length : (w : Words) (bytes : List ℕ) (long : Bool) → command_of words ≡ Some w → finite.get before w.«module» ≡ Some bytes → MatchBool long (a ≡ refusal TOO_LONG (codes "too long " ++ w.«module» ++ codes "\n")) (IsModuleAnswer w bytes a) → Done
+  on_length w bytes true command file e = absurd (other_status TOO_LONG (codes "too long " ++ w.«module» ++ codes "\n") (omega arith) e)
   on_length w bytes false command file h = on_module w bytes command file h
 
   on_file : (w : Words) (file : Option (List ℕ)) → command_of words ≡ Some w → finite.get before w.«module» ≡ file → IsFileAnswer w file a → Done
-  on_file w None command file e = absurd (other_status 18 (codes "absent " ++ w.«module» ++ codes "\n") (omega arith) e)
+  on_file w None command file e = absurd (other_status ABSENT (codes "absent " ++ w.«module» ++ codes "\n") (omega arith) e)
   on_file w (Some bytes) command file h = on_length w bytes (nat_lt module_limit (length bytes)) command file h
 
   on_command : (c : Option Words) → command_of words ≡ c → IsCommandAnswer c before a → Done
-  on_command None command e = absurd (other_status 2 (codes "words\n") (omega arith) e)
+  on_command None command e = absurd (other_status NO_COMMAND (codes "words\n") (omega arith) e)
   on_command (Some w) command h = on_file w (finite.get before w.«module») command refl h
 
   pub answer_delivers : IsAnswer words before a → Done
   answer_delivers h = on_command (command_of words) refl h
 
-pub delivered : (fs now fs' : Option Files) (words : List (List ℕ)) (a : Answer) → IfSome fs (λ files. IsAnswer words files a) → now ≡ fs → fs' ≡ after_writes a.writes now → a.status ≡ 0 → IfSome fs (λ files. (after : Files) × (fs' ≡ Some after) × Delivers words files after)
+pub delivered : (fs now fs' : Option Files) (words : List (List ℕ)) (a : Answer) → IfSome fs (λ files. IsAnswer words files a) → now ≡ fs → fs' ≡ after_writes a.writes now → a.status ≡ DONE → IfSome fs (λ files. (after : Files) × (fs' ≡ Some after) × Delivers words files after)
 delivered None now fs' words a h same left z = tt
 delivered (Some files) now fs' words a h same left z = answer_delivers words files fs' a z (left ∙ ap (after_writes a.writes) same) h

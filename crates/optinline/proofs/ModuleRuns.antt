@@ -14,6 +14,7 @@ use Rattle.ir_core.specs.Plain.{plain_body, plain_program}
 use Rattle.ir_core.specs.Proper.{IsProper}
 use Rattle.ir_core.specs.Valid.{IsValid, IsValidFunc}
 use Rattle.ir_core.proofs.SoundRules.{runs_as_the_source_where_valid}
+use Rattle.optinline.specs.declared.body.TheConstants.{MOST_OPS}
 use Rattle.optinline.specs.declared.body.Body.{Body}
 use Rattle.optinline.specs.declared.body.Value.{Value}
 use Rattle.optinline.specs.declared.body.Value.TheVariants.{Reg, Word}
@@ -34,15 +35,15 @@ known_up : (count most : ℕ) (v : Value) → count ≤ most → IsKnown count v
 known_up count most (Reg r) h known = omega (arith, h, known)
 known_up count most (Word w) h known = known
 
-all_known : (k : ℕ) (ops : List Op) → k + length ops ≤ 400 → AreDefined k ops → All (OpIsKnown 400) ops
-all_known k [] h defined = All-nil (OpIsKnown 400)
+all_known : (k : ℕ) (ops : List Op) → k + length ops ≤ MOST_OPS → AreDefined k ops → All (OpIsKnown MOST_OPS) ops
+all_known k [] h defined = All-nil (OpIsKnown MOST_OPS)
 all_known k (o ∷ ops) h defined =
-    All-cons (OpIsKnown 400) o ops (known_up k 400 o.left (omega (arith, h)) defined.0.0, known_up k 400 o.right (omega (arith, h)) defined.0.1) (all_known (k + 1) ops (omega (arith, h)) defined.1)
+    All-cons (OpIsKnown MOST_OPS) o ops (known_up k MOST_OPS o.left (omega (arith, h)) defined.0.0, known_up k MOST_OPS o.right (omega (arith, h)) defined.0.1) (all_known (k + 1) ops (omega (arith, h)) defined.1)
 
 known_body : (b : Body) → IsDefined b → IsKnownBody b
 known_body b defined =
     let few = defined.few in
-    record { ops = all_known 0 b.ops (omega (arith, few)) defined.ops; value = known_up (length b.ops) 400 b.value few defined.value; few = few }
+    record { ops = all_known 0 b.ops (omega (arith, few)) defined.ops; value = known_up (length b.ops) MOST_OPS b.value few defined.value; few = few }
 
 -- ---- runs
 

@@ -17,13 +17,14 @@ use Rattle.ir_core.specs.declared.func.Func.{Func}
 use Rattle.ir_core.specs.declared.func.Param.{Param}
 use Rattle.ir_core.specs.Parts.{instrs}
 use Rattle.ir_core.specs.Proper.{IsProper, IsProperFunc, HasItsResult, AllDiffer}
-use Rattle.ir_core.specs.Stands.{start, symbol_text, is_up_to}
+use Rattle.ir_core.specs.Operands.{start, symbol_text, is_up_to}
 use Rattle.ir_core.specs.Source.{is_main}
 use Rattle.ir_core.specs.Valid.{IsValid}
 use Rattle.ir_core.specs.ValidModule.{Introduced, introduced, introduced_funcs}
 use Rattle.ir_core.proofs.Lists.{Each}
 use Rattle.module_rules.specs.Faults.{place_if}
 use Rattle.module_rules.proofs.Earliest.{up_to_total}
+use Rattle.optinline.specs.declared.body.TheConstants.{MOST_OPS}
 use Rattle.optinline.specs.Unbuilt.{is_sum, returns_simple, instr_places, block_places, instr_unbuilt, block_unbuilt, main_unbuilt, func_unbuilt, global_unbuilt, unbuilt}
 use Rattle.optinline.proofs.Built.{first_none, rest_none, singles_none, parts_none, dropped_none, each_of_all, none_in, one_in, none_if, has_result}
 
@@ -38,7 +39,7 @@ pub record IsOneMain (m : Module) (f : Func) (b : Block) : Type 0 where
   pub params : f.params ≡ []
   pub blocks : f.blocks ≡ b ∷ []
   pub code : Each IsSumInstr b.code
-  pub few : length b.code ≤ 400
+  pub few : length b.code ≤ MOST_OPS
   pub end : returns_simple b.end ≡ true
 
 -- ---- a block
@@ -52,18 +53,18 @@ sums code all none = both code (each_of_all HasItsResult code all) none
 
 record IsSumBlock (b : Block) : Type 0 where
   code : Each IsSumInstr b.code
-  few : length b.code ≤ 400
+  few : length b.code ≤ MOST_OPS
   end : returns_simple b.end ≡ true
 
 sum_block : (b : Block) → All HasItsResult b.code → block_unbuilt b ≡ [] → IsSumBlock b
 sum_block b all none =
     let forms : List Place = flat_map instr_unbuilt b.code in
-    let late : List Place = flat_map instr_places (drop 400 b.code) in
+    let late : List Place = flat_map instr_places (drop MOST_OPS b.code) in
     let last : List Place = place_if (not (returns_simple b.end)) b.end_place in
     let before = first_none (forms ++ late) last none in
     record {
       code = sums b.code all (parts_none instr_unbuilt b.code (first_none forms late before));
-      few = dropped_none 400 b.code (singles_none instr_places (λ i. i.place) (λ i. refl) (drop 400 b.code) (rest_none forms late before));
+      few = dropped_none MOST_OPS b.code (singles_none instr_places (λ i. i.place) (λ i. refl) (drop MOST_OPS b.code) (rest_none forms late before));
       end = none_if (returns_simple b.end) b.end_place (rest_none (forms ++ late) last none);
     }
 

@@ -13,10 +13,11 @@ use Rattle.rv_isa.specs.Laws.{Holds}
 use Rattle.rv_select.specs.Parts.{store_slot, open_frame, epilogue, stub}
 use Rattle.rv_select.specs.Texts.{bytes_of}
 use Rattle.rv_select.specs.Table as table
-use Rattle.rv_select.specs.Table.{Frame, instr_code, end_code, ret_code, prologue}
+use Rattle.rv_select.specs.Table.{instr_code, end_code, ret_code, prologue}
 use Rattle.rv_select.specs.Stands.{IsFrame, Object, IsAt, IsThere, IsLaid}
 use Rattle.rv_select.proofs.Items.{holds_front, holds_back}
 use Rattle.rv_select.proofs.Texts.{text_holds, bytes_length}
+use Rattle.optinline.specs.declared.body.TheConstants.{MOST_OPS}
 use Rattle.optinline.specs.declared.body.Value.{Value}
 use Rattle.optinline.specs.declared.body.Value.TheVariants.{Reg, Word}
 use Rattle.optinline.specs.declared.body.Sum.{Sum}
@@ -26,7 +27,7 @@ use Rattle.optinline.specs.declared.body.Body.{Body}
 use Rattle.optinline.specs.Lowering.{slot, frame_size, load, machine_op, op_code, ops_code, main_code}
 use Rattle.optinline.specs.Executable.{image}
 use Rattle.optinline.specs.Meaning.{operand_of, instr_of, instrs_of, flat_body, flat_program}
-use Rattle.optinline.specs.Layout.{main_frame, op_place, main_address, ops_address, main_object}
+use Rattle.optinline.specs.Layout.{main_frame, op_address, main_address, ops_address, main_object}
 use Rattle.optinline.proofs.Lengths.{len-main_code}
 use Rattle.optinline.proofs.Ranges.{program_ranges}
 
@@ -35,20 +36,20 @@ use Rattle.optinline.proofs.Ranges.{program_ranges}
 size_least : (n : ℕ) → 4 + 4 * n ≤ frame_size n
 size_least n = omega arith
 
-size_most : (n : ℕ) → n ≤ 400 → frame_size n ≤ 65536
+size_most : (n : ℕ) → n ≤ MOST_OPS → frame_size n ≤ 65536
 size_most n h = omega arith
 
 size_whole : (n : ℕ) → frame_size n % 16 ≡ 0
 size_whole n = omega arith
 
-pub frame_is : (n : ℕ) → n ≤ 400 → IsFrame (main_frame n)
+pub frame_is : (n : ℕ) → n ≤ MOST_OPS → IsFrame (main_frame n)
 frame_is n few = record {
   above = λ r low e. omega arith;
   below = λ r low e. omega arith;
   aligned = λ r low e. omega arith;
   apart = λ r q low high e f ne. grind arith;
   homes = λ r low e. absurd (no_alloca e);
-  return_place = omega arith;
+  return_address = omega arith;
   inside = size_least n;
   whole = size_whole n;
   most = size_most n few;
@@ -79,7 +80,7 @@ op_is n number op = with_parts op.sum
 
 module _ (s : Segments) (n : ℕ) where
   -- the code of an instruction stands where the layout says
-  instr_at : (address number : ℕ) (ops : List Op) (k : ℕ) (i : FlatInstr) → Holds s address (ops_code number ops) → slice_get (instrs_of number ops) k ≡ Some i → IsAt s (op_place address number ops k) (op_place address number ops (k + 1)) (instr_code (λ g. data_start) (main_frame n) i)
+  instr_at : (address number : ℕ) (ops : List Op) (k : ℕ) (i : FlatInstr) → Holds s address (ops_code number ops) → slice_get (instrs_of number ops) k ≡ Some i → IsAt s (op_address address number ops k) (op_address address number ops (k + 1)) (instr_code (λ g. data_start) (main_frame n) i)
   unfolding ops_code
   instr_at address number [] k i has e = absurd (no_instr e)
     where
@@ -96,17 +97,17 @@ module _ (s : Segments) (n : ℕ) where
       let next = address + 4 * length (op_code number op) in
       let later : suc (k + 1) ≡ suc k + 1 = omega arith in
       let rest = instr_at next (number + 1) ops k i (holds_back s address (op_code number op) (ops_code (number + 1) ops) has) e in
-      subst (λ j. IsAt s (op_place next (number + 1) ops k) (op_place address number (op ∷ ops) j) (instr_code (λ g. data_start) (main_frame n) i)) later rest
+      subst (λ j. IsAt s (op_address next (number + 1) ops k) (op_address address number (op ∷ ops) j) (instr_code (λ g. data_start) (main_frame n) i)) later rest
 
--- the end of the block stands behind all operations
-end_place : (address number : ℕ) (ops : List Op) → op_place address number ops (length (instrs_of number ops)) ≡ address + 4 * length (ops_code number ops)
+-- the end of the block stands after all operations
+end_place : (address number : ℕ) (ops : List Op) → op_address address number ops (length (instrs_of number ops)) ≡ address + 4 * length (ops_code number ops)
 unfolding ops_code
 end_place address number [] = omega arith
 end_place address number (op ∷ ops) = let h = end_place (address + 4 * length (op_code number op)) (number + 1) ops in let l = length-append (op_code number op) (ops_code (number + 1) ops) in omega arith
 
 -- ---- the whole
 
-module _ (b : Body) (few : length b.ops ≤ 400) where
+module _ (b : Body) (few : length b.ops ≤ MOST_OPS) where
   abbrev o : Object
   o = main_object b
 
@@ -139,7 +140,7 @@ module _ (b : Body) (few : length b.ops ≤ 400) where
   entry_at : IsAt s main_address (ops_address b) (Some (prologue (main_frame n) 0))
   entry_at = subst (λ c. IsAt s main_address (ops_address b) (Some c)) (sym (append-nil (open_frame (frame_size n)))) (holds_front s main_address (open_frame (frame_size n)) _ main_holds, refl)
 
-  end_at : IsThere s (op_place (ops_address b) 0 b.ops (length (instrs_of 0 b.ops))) (Some (ret_code (λ g. data_start) (main_frame n) (Some (operand_of b.value))))
+  end_at : IsThere s (op_address (ops_address b) 0 b.ops (length (instrs_of 0 b.ops))) (Some (ret_code (λ g. data_start) (main_frame n) (Some (operand_of b.value))))
   end_at =
       let h = holds_back s (ops_address b) (ops_code 0 b.ops) (load 10 b.value ++ epilogue (frame_size n)) ops_hold in
       subst (λ a. Holds s a (table.load (λ g. data_start) (main_frame n) 10 (operand_of b.value) ++ epilogue (frame_size n))) (sym (end_place (ops_address b) 0 b.ops))
@@ -177,7 +178,7 @@ module _ (b : Body) (few : length b.ops ≤ 400) where
     start = (16, refl, omega arith, holds_front s text_start (stub 16) (main_code b) all_hold);
     entries = λ f body e. subst (λ (y : FlatBody). IsAt s main_address (ops_address b) (Some (prologue (main_frame n) y.params))) (one_body f body (nat_eq f 0) refl e) entry_at;
     instructions = λ f k place block i e h. instr_at s n (ops_address b) 0 b.ops place i (holds_front s (ops_address b) (ops_code 0 b.ops) _ ops_hold) (ap (λ (y : FlatBlock). slice_get y.code place) (block_is f k block (nat_eq f 0) refl e) ∙ h);
-    ends = λ f k block e. subst (λ (y : FlatBlock). IsThere s (op_place (ops_address b) 0 b.ops (length y.code)) (end_code (λ g. data_start) (main_frame n) y.end)) (block_is f k block (nat_eq f 0) refl e) end_at;
+    ends = λ f k block e. subst (λ (y : FlatBlock). IsThere s (op_address (ops_address b) 0 b.ops (length y.code)) (end_code (λ g. data_start) (main_frame n) y.end)) (block_is f k block (nat_eq f 0) refl e) end_at;
     data_laid = record {
       blocks = λ g y e live. absurd (nothing e);
       apart = λ i j y z e h live live' ne k l lo hi. absurd (nothing e);

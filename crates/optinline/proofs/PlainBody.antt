@@ -42,7 +42,7 @@ use Rattle.module_rules.proofs.Distinct.{IsDistinct, distinct_numbers, map_at}
 use Rattle.optinline.specs.Bodies.{IsKnown, OpIsKnown, AreDefined, IsDefined}
 use Rattle.optinline.specs.Meaning.{operand_of, bin_op, instr_of, instrs_of, flat_body}
 use Rattle.optinline.specs.MainBody.{value_in, sum_of, op_in, returned_in, result_number, result_numbers, registers_of, body_of, IsBuilt}
-use Rattle.module_rules.specs.Walks.{is_word}
+use Rattle.ir_core.specs.Types.{is_word}
 use Rattle.module_rules.proofs.WalkLaws.{word_decides}
 use Rattle.optinline.specs.Unbuilt.{is_simple, adds_or_subtracts, is_sum, returns_simple}
 use Rattle.optinline.proofs.Built.{left_passes, right_passes, is_kind, none_in}
@@ -83,8 +83,8 @@ local_at [] k d h at = absurd (not_some d at)
 local_at (i ∷ is) k d h at = by_place k (λ j. local_at is j d h.1) (sym (ap (λ (l : List LocalId). slice_get l k) (first_result i is h.0.0.0 h.0.0.1)) ∙ at)
   where
     by_place : (k : ℕ) → ((j : ℕ) → slice_get (results_of is) j ≡ Some d → (p : Place) × (slice_get (flat_map instr_local is) j ≡ Some (record { name = d; place = p }))) → slice_get (h.0.0.0 ∷ results_of is) k ≡ Some d → (p : Place) × (slice_get (flat_map instr_local (i ∷ is)) k ≡ Some (record { name = d; place = p }))
-    by_place zero behind at = (i.place, ap (λ (l : List LocalAt). slice_get l 0) (first_local i is h.0.0.0 h.0.0.1) ∙ ap (λ (x : LocalId). Some (record { name = x; place = i.place })) (same_some h.0.0.0 d at))
-    by_place (suc k) behind at = let rest = behind k at in (rest.0, ap (λ (l : List LocalAt). slice_get l (suc k)) (first_local i is h.0.0.0 h.0.0.1) ∙ rest.1)
+    by_place zero after at = (i.place, ap (λ (l : List LocalAt). slice_get l 0) (first_local i is h.0.0.0 h.0.0.1) ∙ ap (λ (x : LocalId). Some (record { name = x; place = i.place })) (same_some h.0.0.0 d at))
+    by_place (suc k) after at = let rest = after k at in (rest.0, ap (λ (l : List LocalAt). slice_get l (suc k)) (first_local i is h.0.0.0 h.0.0.1) ∙ rest.1)
 
 -- the same by their numbers
 numbers_first : (i : Instr) (is : List Instr) (d : LocalId) → i.result ≡ Some d → flat_map result_numbers (i ∷ is) ≡ d.0 ∷ flat_map result_numbers is

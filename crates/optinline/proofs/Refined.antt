@@ -7,7 +7,7 @@ use Rattle.ir_core.specs.Flat.{flat_run}
 use Rattle.ir_core.specs.Source.{src}
 use Rattle.rv_isa.specs.Isa.{run}
 use Rattle.rv_isa.specs.Refines.{Refines}
-use Rattle.rv_select.proofs.Whole.{sums_refined}
+use Rattle.rv_select.proofs.WholeProgram.{sums_refined}
 use Rattle.optinline.specs.declared.body.Body.{Body}
 use Rattle.optinline.specs.Lowering.{frame_size}
 use Rattle.optinline.specs.Executable.{image, main_function}

@@ -20,6 +20,7 @@ use Rattle.ir_core.specs.Proper.{IsProper}
 use Rattle.ir_proper.proofs.ReadIsProper.{read_with_few_sites}
 use Rattle.ir_reader.specs.Refusals.{ReadsWithin, ExceedsSites, IsRefusal}
 use Rattle.optinline.specs.Answer.{limit_word, lexical_word, fault_word, fault_place}
+use Rattle.ir_core.specs.declared.limits.TheConstants.{MOST_SITES}
 
 -- ---- what is said
 
@@ -52,7 +53,7 @@ by_site (Some s) = (s.place, codes "limit sites")
 
 -- what is said after this reading
 abbrev pub by_reading : Outcome Module → Said
-by_reading (Ok r) = by_site (slice_get (all_sites r.0.funcs) 4096)
+by_reading (Ok r) = by_site (slice_get (all_sites r.0.funcs) MOST_SITES)
 by_reading (Err d) = by_pieces d.at d.why
 
 not_both : {A B : Type 0} (a : A) (b : B) → Ok a ≡ Err b → ⊥
@@ -79,7 +80,7 @@ at_sites bytes p (m, h, s, at, place) =
       none = λ n k.
           let same : m ≡ n = one_module_within bytes m n h k.0 in
           let few = k.1 in
-          let many = slice_get_within (all_sites m.funcs) 4096 s at in
+          let many = slice_get_within (all_sites m.funcs) MOST_SITES s at in
           let equal : length (all_sites m.funcs) ≡ length (all_sites n.funcs) = ap (λ (x : Module). length (all_sites x.funcs)) same in
           omega (arith, few, many, equal);
     }

@@ -19,6 +19,8 @@ use Rattle.ir_phrases.specs.declared.fault.ReadFault.TheVariants as faults
 use Rattle.ir_reader.specs.Refusals.{ReadsWithin, IsRefusal}
 use Rattle.optinline.specs.declared.body.Body.{Body}
 use Rattle.optinline.specs.declared.reply.Reply.{Reply}
+use Rattle.optinline.specs.declared.answer.TheConstants.{MODULE_LIMIT}
+use Rattle.optinline.specs.declared.status.TheConstants.{DONE, NO_COMMAND, REFUSED, TOO_LONG, NOT_BUILT, ABSENT}
 use Rattle.optinline.specs.Lowering.{size, body_size}
 use Rattle.optinline.specs.Executable.{object}
 use Rattle.optinline.specs.Reply.{writes_of, after_writes, with_said, CutShort}
@@ -43,7 +45,7 @@ refusal status text = record { status = status; writes = []; said = text }
 
 -- how many bytes a module has at most
 abbrev pub module_limit : ℕ
-module_limit = 1048576
+module_limit = MODULE_LIMIT
 
 -- the line of a build without candidate sites: the bytes of the text, and one node of the search
 abbrev pub summary : ℕ → List ℕ
@@ -63,14 +65,14 @@ certificate b = heading (size b) ++ leaf (body_size b)
 -- the answer to a build of this `main`: there are no candidate sites, so there are no decisions
 unfoldable pub built : Words → Body → Answer
 built words b = record {
-  status = 0;
+  status = DONE;
   writes = (words.object, object b) ∷ (words.decisions, []) ∷ (words.cert, certificate b) ∷ [];
   said = summary (size b);
 }
 
 -- ---- refusals of a module
 
--- a text with LINE:COLUMN behind it
+-- a text with LINE:COLUMN after it
 abbrev pub with_place : List ℕ → Place → List ℕ
 with_place text p = text ++ decimal p.line ++ codes ":" ++ decimal p.column
 
@@ -104,14 +106,14 @@ fault_place faults.NoMemory = record { line = 0; column = 0 }
 
 -- a module with a fault at a place
 unfoldable pub refused : Place → List ℕ → Answer
-refused p cause = refusal 4 (with_place (codes "module ") p ++ codes " " ++ cause ++ codes "\n")
+refused p cause = refusal REFUSED (with_place (codes "module ") p ++ codes " " ++ cause ++ codes "\n")
 
 abbrev pub rule_word : ℕ → List ℕ
 rule_word number = codes "rule " ++ decimal number
 
 -- a module of which something isn't built yet
 unfoldable pub not_yet : Place → Answer
-not_yet p = refusal 13 (with_place (codes "not built ") p ++ codes "\n")
+not_yet p = refusal NOT_BUILT (with_place (codes "not built ") p ++ codes "\n")
 
 -- ---- which answer a run has
 
@@ -132,12 +134,12 @@ pub data IsModuleAnswer (words : Words) (bytes : List ℕ) (a : Answer) : Type 0
 
 -- the answer where the file of the module has these bytes, or isn't there
 abbrev pub IsFileAnswer : Words → Option (List ℕ) → Answer → Type 0
-IsFileAnswer words None a = a ≡ refusal 18 (codes "absent " ++ words.«module» ++ codes "\n")
+IsFileAnswer words None a = a ≡ refusal ABSENT (codes "absent " ++ words.«module» ++ codes "\n")
 IsFileAnswer words (Some bytes) a =
-    MatchBool (nat_lt module_limit (length bytes)) (a ≡ refusal 9 (codes "too long " ++ words.«module» ++ codes "\n")) (IsModuleAnswer words bytes a)
+    MatchBool (nat_lt module_limit (length bytes)) (a ≡ refusal TOO_LONG (codes "too long " ++ words.«module» ++ codes "\n")) (IsModuleAnswer words bytes a)
 
 abbrev pub IsCommandAnswer : Option Words → Files → Answer → Type 0
-IsCommandAnswer None files a = a ≡ refusal 2 (codes "words\n")
+IsCommandAnswer None files a = a ≡ refusal NO_COMMAND (codes "words\n")
 IsCommandAnswer (Some words) files a = IsFileAnswer words (finite.get files words.«module») a
 
 -- the answer to these words on a desk with these files
@@ -192,19 +194,19 @@ Iff p q = (p → q) × (q → p)
 
 -- each status has its cause
 pub record HasCauses (words : List (List ℕ)) (files : Files) (status : ℕ) : Type 0 where
-  pub no_command : Iff (status ≡ 2) (command_of words ≡ None)
-  pub absent : Iff (status ≡ 18) (IsAbsent words files)
-  pub too_long : Iff (status ≡ 9) (IsTooLong words files)
-  pub refused : Iff (status ≡ 4) (IsRefused words files)
-  pub not_built : Iff (status ≡ 13) (IsNotBuilt words files)
-  pub accepted : Iff (status ≡ 0) (IsAccepted words files)
+  pub no_command : Iff (status ≡ NO_COMMAND) (command_of words ≡ None)
+  pub absent : Iff (status ≡ ABSENT) (IsAbsent words files)
+  pub too_long : Iff (status ≡ TOO_LONG) (IsTooLong words files)
+  pub refused : Iff (status ≡ REFUSED) (IsRefused words files)
+  pub not_built : Iff (status ≡ NOT_BUILT) (IsNotBuilt words files)
+  pub accepted : Iff (status ≡ DONE) (IsAccepted words files)
 
 -- the statuses of an answer to a build, and of an answer
 abbrev pub IsBuildStatus : ℕ → Type 0
-IsBuildStatus n = (n ≡ 0) ⊎ ((n ≡ 4) ⊎ ((n ≡ 9) ⊎ ((n ≡ 13) ⊎ (n ≡ 18))))
+IsBuildStatus n = (n ≡ DONE) ⊎ ((n ≡ REFUSED) ⊎ ((n ≡ TOO_LONG) ⊎ ((n ≡ NOT_BUILT) ⊎ (n ≡ ABSENT))))
 
 abbrev pub IsStatus : ℕ → Type 0
-IsStatus n = (n ≡ 2) ⊎ IsBuildStatus n
+IsStatus n = (n ≡ NO_COMMAND) ⊎ IsBuildStatus n
 
 -- ---- what a run leaves
 
@@ -219,16 +221,16 @@ pub data Interrupted (a : Answer) (files files' : Option Files) (said said' : Op
   writing : CutShort a.writes files files' Failed → said' ≡ said → Interrupted a files files' said said'
   saying : files' ≡ after_writes a.writes files → is_some said' ≡ is_some said → Interrupted a files files' said said'
 
--- Want of memory ended the run: the writes before some place of the answer's were made, and nothing was said.
-abbrev pub Fronted : Answer → Option Files → Option Files → Option (List ℕ) → Option (List ℕ) → Type 0
-Fronted a files files' said said' = (at : ℕ) × (at ≤ length a.writes) × (files' ≡ after_writes (take at a.writes) files) × (said' ≡ said)
+-- Want of memory ended the run: a prefix of the answer's writes was made, and nothing was said.
+abbrev pub EndedEarly : Answer → Option Files → Option Files → Option (List ℕ) → Option (List ℕ) → Type 0
+EndedEarly a files files' said said' = (at : ℕ) × (at ≤ length a.writes) × (files' ≡ after_writes (take at a.writes) files) × (said' ≡ said)
 
 -- what carrying an answer out leaves
 abbrev pub Leaves : {T : Type 0} → Answer → Option Files → Option Files → Option (List ℕ) → Option (List ℕ) → Result T DeskFault → Type 0
 Leaves a files files' said said' (Ok x) = (files' ≡ after_writes a.writes files) × (said' ≡ with_said a.said said)
 Leaves a files files' said said' (Err Failed) = Interrupted a files files' said said'
 Leaves a files files' said said' (Err Absent) = ⊥
-Leaves a files files' said said' (Err NoMemory) = Fronted a files files' said said'
+Leaves a files files' said said' (Err NoMemory) = EndedEarly a files files' said said'
 
 -- nothing was written and nothing said
 abbrev pub IsUntouched : Option Files → Option Files → Option (List ℕ) → Option (List ℕ) → Type 0
@@ -239,4 +241,4 @@ abbrev pub Runs : List (List ℕ) → Files → Option Files → Option Files �
 Runs words on files files' said said' (Ok status) = (a : Answer) × IsAnswer words on a × Answered a status files files' said said'
 Runs words on files files' said said' (Err Failed) = IsUntouched files files' said said' ⊎ ((a : Answer) × IsAnswer words on a × Interrupted a files files' said said')
 Runs words on files files' said said' (Err Absent) = ⊥
-Runs words on files files' said said' (Err NoMemory) = IsUntouched files files' said said' ⊎ ((a : Answer) × IsAnswer words on a × Fronted a files files' said said')
+Runs words on files files' said said' (Err NoMemory) = IsUntouched files files' said said' ⊎ ((a : Answer) × IsAnswer words on a × EndedEarly a files files' said said')

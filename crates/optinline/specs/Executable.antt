@@ -1,7 +1,8 @@
--- The image of an executable: the start stub, the functions behind it, and their symbols.
+-- The image of an executable: the start stub, the functions after it, and their symbols.
 use Rattle.std.specs.Prelude.{ℕ, ◌+◌, ◌*◌, Bool, true, not, List, [], ◌∷◌, ◌++◌, length, filter, codes}
 use Rattle.std.specs.List.{flat_map}
 use Rattle.rv_isa.specs.declared.rv.Rv.{Rv}
+use Rattle.rv_isa.specs.Memory.{text_start}
 use Rattle.elf_object.specs.Image.{Parts}
 use Rattle.elf_object.specs.File.{elf}
 use Rattle.elf_object.specs.declared.symbol.Symbol.{Symbol}
@@ -17,11 +18,11 @@ pub record Function : Type 0 where
   pub global : Bool
   pub code : List Rv
 
--- the codes one behind another
+-- the codes one after another
 abbrev pub codes_of : List Function → List Rv
 codes_of functions = flat_map (λ f. f.code) functions
 
--- the symbols of functions that stand one behind another from this address on
+-- the symbols of functions that stand one after another from this address on
 abbrev pub symbols_from : ℕ → List Function → List Symbol
 symbols_from address [] = []
 symbols_from address (f ∷ fs) =
@@ -31,12 +32,12 @@ symbols_from address (f ∷ fs) =
 abbrev pub local_first : List Symbol → List Symbol
 local_first symbols = filter (λ s. not s.global) symbols ++ filter (λ s. s.global) symbols
 
--- the image of these functions, with `main` at this distance from the stub, which stands at 0x10000; there are no data
+-- the image of these functions, with `main` at this distance from the stub, which stands where the text starts; there are no data
 unfoldable pub image : ℕ → List Function → Parts
 image distance functions = record {
   text = bytes_of (stub distance ++ codes_of functions);
   data_bytes = [];
-  symbols = local_first (symbols_from (65536 + 4 * length (stub distance)) functions);
+  symbols = local_first (symbols_from (text_start + 4 * length (stub distance)) functions);
 }
 
 abbrev pub main_function : Body → Function

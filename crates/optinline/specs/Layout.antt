@@ -27,12 +27,12 @@ abbrev pub segments_of : Parts → Segments
 segments_of i = record { text = i.text; data_bytes = i.data_bytes }
 
 -- where the code of the k-th of these operations stands, when that of the first, with this number, stands at an address
-abbrev pub op_place : ℕ → ℕ → List Op → ℕ → ℕ
-op_place address number ops zero = address
-op_place address number [] (suc k) = address
-op_place address number (op ∷ ops) (suc k) = op_place (address + 4 * length (op_code number op)) (number + 1) ops k
+abbrev pub op_address : ℕ → ℕ → List Op → ℕ → ℕ
+op_address address number ops zero = address
+op_address address number [] (suc k) = address
+op_address address number (op ∷ ops) (suc k) = op_address (address + 4 * length (op_code number op)) (number + 1) ops k
 
--- `main` stands behind the stub, and its operations behind its entry
+-- `main` stands after the stub, and its operations after its entry
 abbrev pub main_address : ℕ
 main_address = text_start + 16
 
@@ -45,5 +45,5 @@ main_object b = record {
   global_at = λ g. data_start;
   frame = λ f. main_frame (length b.ops);
   entry = λ f. main_address;
-  place = λ f block k. op_place (ops_address b) 0 b.ops k;
+  address = λ f block k. op_address (ops_address b) 0 b.ops k;
 }

@@ -17,6 +17,7 @@ use Rattle.ir_core.specs.declared.func.Block.{Block}
 use Rattle.ir_core.specs.declared.func.Func.{Func}
 use Rattle.ir_core.specs.declared.module.Module.{Module}
 use Rattle.module_rules.specs.Faults.{numbers_of}
+use Rattle.optinline.specs.declared.body.TheConstants.{MOST_OPS}
 use Rattle.optinline.specs.declared.body.Value.{Value}
 use Rattle.optinline.specs.declared.body.Value.TheVariants.{Reg, Word}
 use Rattle.optinline.specs.declared.body.Sum.{Sum}
@@ -74,11 +75,11 @@ main_body m = first_func m.funcs
 
 -- ---- what of it is made
 
--- a block of at most 400 instructions, each of which writes to a register of its own
+-- a block of at most `MOST_OPS` instructions, each of which writes to a register of its own
 pub record IsBuilt (b : Block) : Type 0 where
-  pub few : length b.code ≤ 400
+  pub few : length b.code ≤ MOST_OPS
   pub apart : numbers_of (registers_of b) ≡ registers_of b
-  pub count : length (registers_of b) ≤ 400
+  pub count : length (registers_of b) ≤ MOST_OPS
 
 abbrev pub AreBuiltBlocks : List Block → Type 0
 AreBuiltBlocks [] = Unit {0}

@@ -1,5 +1,6 @@
--- What a build does not take yet of a module that breaks no rule. It takes a `main` of one block of at most 400 sums and
+-- What a build does not take yet of a module that breaks no rule. It takes a `main` of one block of at most `MOST_OPS` sums and
 -- differences of words of 32 bits, which returns such a word, and neither another definition nor a global variable.
+use Rattle.optinline.specs.declared.body.TheConstants.{MOST_OPS}
 use Rattle.std.specs.Prelude.{Bool, true, false, not, ◌&&◌, if◌then◌else◌, List, [], ◌∷◌, ◌++◌, drop, Some}
 use Rattle.std.specs.List.{flat_map}
 use Rattle.oi_base.specs.declared.ids.Place.{Place}
@@ -19,7 +20,7 @@ use Rattle.ir_core.specs.declared.module.GlobalVar.{GlobalVar}
 use Rattle.ir_core.specs.declared.module.Module.{Module}
 use Rattle.ir_core.specs.Source.{is_main}
 use Rattle.module_rules.specs.Faults.{place_if}
-use Rattle.module_rules.specs.Walks.{is_word}
+use Rattle.ir_core.specs.Types.{is_word}
 
 -- ---- forms
 
@@ -55,10 +56,10 @@ block_places b = b.place ∷ []
 abbrev pub instr_unbuilt : Instr → List Place
 instr_unbuilt i = place_if (not (is_sum i.op)) i.place
 
--- a block's instructions and terminator of other forms, and its operations behind the first 400
+-- a block's instructions and terminator of other forms, and its operations after the first `MOST_OPS`
 abbrev pub block_unbuilt : Block → List Place
 block_unbuilt b =
-    flat_map instr_unbuilt b.code ++ flat_map instr_places (drop 400 b.code) ++ place_if (not (returns_simple b.end)) b.end_place
+    flat_map instr_unbuilt b.code ++ flat_map instr_places (drop MOST_OPS b.code) ++ place_if (not (returns_simple b.end)) b.end_place
 
 -- each block of `main` but the first, and what isn't built in a block
 abbrev pub main_unbuilt : List Block → List Place

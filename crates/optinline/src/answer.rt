@@ -13,9 +13,10 @@ use crate::executable::build_executable;
 use crate::faults::{fault_place, fault_word};
 use crate::one_block::main_body;
 use crate::reply::{FileWrite, Reply};
+use crate::status::{ABSENT, DONE, NOT_BUILT, REFUSED, TOO_LONG};
 use crate::unbuilt::first_unbuilt;
 use crate::words::Build;
-use ir_core::{Module, Verified};
+use ir_core::{FuncRule, Module, Verified};
 use ir_reader::{ReadFault, read_module};
 use ir_verifier::{RuleFault, verify};
 use oi_base::{NoMemory, Place};
@@ -83,7 +84,7 @@ fn write_of(alloc: Global, name: &str, bytes: Vec<u8>) -> Result<FileWrite, Allo
 fn built(alloc: Global, build: &Build<'_>, body: &Body) -> Result<Reply, NoMemory>
     requires { IsKnownBody body.now }
     ensures answer { IfOk result (λ r. answer_of r ≡ built (view build.now) body.now) }
-    ensures status { IfOk result (λ r. r.status ≡ 0) }
+    ensures status { IfOk result (λ r. r.status ≡ DONE) }
 {
     let object = build_executable(alloc, body)?;
     let cert = certificate(alloc, object.size, object.body_size)?;
@@ -94,7 +95,7 @@ fn built(alloc: Global, build: &Build<'_>, body: &Body) -> Result<Reply, NoMemor
         write_of(alloc, build.cert, cert)?,
     ]?;
     Ok(Reply {
-        status: 0,
+        status: DONE,
         writes,
         said,
     })
@@ -104,18 +105,18 @@ fn built(alloc: Global, build: &Build<'_>, body: &Body) -> Result<Reply, NoMemor
 #[tactic(auto, unfolding(crate::specs::Answer::refused))]
 fn refused(alloc: Global, place: Place, cause: &str) -> Result<Reply, AllocError>
     ensures answer { IfOk result (λ r. answer_of r ≡ refused place cause.now) }
-    ensures status { IfOk result (λ r. r.status ≡ 4) }
+    ensures status { IfOk result (λ r. r.status ≡ REFUSED) }
     ensures quiet { IfOk result (λ r. r.writes.items ≡ []) }
 {
     let (line, column) = (place.line, place.column);
     let said = format!(in alloc; "module {line}:{column} {cause}\n")?;
-    Ok(refuse(alloc, 4, said))
+    Ok(refuse(alloc, REFUSED, said))
 }
 
 /// The answer where a rule is broken at a place.
 fn rule_broken(alloc: Global, rule: u8, place: Place) -> Result<Reply, AllocError>
     ensures answer { IfOk result (λ r. answer_of r ≡ refused place (rule_word rule)) }
-    ensures status { IfOk result (λ r. r.status ≡ 4) }
+    ensures status { IfOk result (λ r. r.status ≡ REFUSED) }
     ensures quiet { IfOk result (λ r. r.writes.items ≡ []) }
 {
     let cause = format!(in alloc; "rule {rule}")?;
@@ -125,19 +126,19 @@ fn rule_broken(alloc: Global, rule: u8, place: Place) -> Result<Reply, AllocErro
 /// The answer where something at a place isn't built yet.
 fn not_yet(alloc: Global, place: Place) -> Result<Reply, AllocError>
     ensures answer { IfOk result (λ r. answer_of r ≡ not_yet place) }
-    ensures status { IfOk result (λ r. r.status ≡ 13) }
+    ensures status { IfOk result (λ r. r.status ≡ NOT_BUILT) }
     ensures quiet { IfOk result (λ r. r.writes.items ≡ []) }
 {
     let (line, column) = (place.line, place.column);
     let said = format!(in alloc; "not built {line}:{column}\n")?;
-    Ok(refuse(alloc, 13, said))
+    Ok(refuse(alloc, NOT_BUILT, said))
 }
 
 /// The answer to a build of a valid module.
 fn valid_reply(alloc: Global, build: &Build<'_>, v: &Verified) -> Result<Reply, NoMemory>
     ensures answer { IfOk result (λ r. IsValidAnswer (view build.now) v.now (answer_of r)) }
     ensures status { IfOk result (λ r. IsBuildStatus r.status) }
-    ensures quiet { IfOk result (λ r. r.status ≢ 0 → r.writes.items ≡ []) }
+    ensures quiet { IfOk result (λ r. r.status ≢ DONE → r.writes.items ≡ []) }
 {
     match first_unbuilt(v.module()) {
         Some(place) => Ok(not_yet(alloc, place)?),
@@ -150,12 +151,16 @@ fn read_reply(alloc: Global, build: &Build<'_>, m: Module) -> Result<Reply, NoMe
     requires { IsProper m }
     ensures answer { IfOk result (λ r. IsReadAnswer (view build.now) m (answer_of r)) }
     ensures status { IfOk result (λ r. IsBuildStatus r.status) }
-    ensures quiet { IfOk result (λ r. r.status ≢ 0 → r.writes.items ≡ []) }
+    ensures quiet { IfOk result (λ r. r.status ≢ DONE → r.writes.items ≡ []) }
 {
     match verify(alloc, m) {
         Ok(v) => valid_reply(alloc, build, &v),
         Err(RuleFault::Rule(rule, place)) => Ok(rule_broken(alloc, rule, place)?),
-        Err(RuleFault::Unassigned(unassigned)) => Ok(rule_broken(alloc, 18, unassigned.place)?),
+        Err(RuleFault::Unassigned(unassigned)) => Ok(rule_broken(
+            alloc,
+            FuncRule::Assignment.number(),
+            unassigned.place,
+        )?),
         Err(RuleFault::NoMemory) => Err(NoMemory),
     }
 }
@@ -164,7 +169,7 @@ fn read_reply(alloc: Global, build: &Build<'_>, m: Module) -> Result<Reply, NoMe
 fn unread_reply(alloc: Global, fault: ReadFault) -> Result<Reply, NoMemory>
     ensures answer { IfOk result (λ r. (fault ≢ faults.NoMemory) × (answer_of r ≡ refused (fault_place fault) (fault_word fault))) }
     ensures status { IfOk result (λ r. IsBuildStatus r.status) }
-    ensures quiet { IfOk result (λ r. r.status ≢ 0 → r.writes.items ≡ []) }
+    ensures quiet { IfOk result (λ r. r.status ≢ DONE → r.writes.items ≡ []) }
 {
     match fault {
         ReadFault::NoMemory => Err(NoMemory),
@@ -177,7 +182,7 @@ fn module_reply(alloc: Global, build: &Build<'_>, bytes: &[u8]) -> Result<Reply,
     requires { length bytes.now ≤ module_limit }
     ensures answer { IfOk result (λ r. IsModuleAnswer (view build.now) bytes.now (answer_of r)) }
     ensures status { IfOk result (λ r. IsBuildStatus r.status) }
-    ensures quiet { IfOk result (λ r. r.status ≢ 0 → r.writes.items ≡ []) }
+    ensures quiet { IfOk result (λ r. r.status ≢ DONE → r.writes.items ≡ []) }
 {
     match read_module(alloc, bytes) {
         Ok(m) => read_reply(alloc, build, m),
@@ -193,14 +198,14 @@ pub fn build_reply(
 ) -> Result<Reply, NoMemory>
     ensures answer { IfOk result (λ r. IsFileAnswer (view build.now) (option_map (λ v. v.items) file) (answer_of r)) }
     ensures status { IfOk result (λ r. IsBuildStatus r.status) }
-    ensures quiet { IfOk result (λ r. r.status ≢ 0 → r.writes.items ≡ []) }
+    ensures quiet { IfOk result (λ r. r.status ≢ DONE → r.writes.items ≡ []) }
 {
     let module = build.module;
     let Some(bytes) = file else {
-        return Ok(refuse(alloc, 18, format!(in alloc; "absent {module}\n")?));
+        return Ok(refuse(alloc, ABSENT, format!(in alloc; "absent {module}\n")?));
     };
     if bytes.len() > MODULE_LIMIT as usize {
-        return Ok(refuse(alloc, 9, format!(in alloc; "too long {module}\n")?));
+        return Ok(refuse(alloc, TOO_LONG, format!(in alloc; "too long {module}\n")?));
     }
     module_reply(alloc, build, bytes.as_slice())
 }

@@ -7,7 +7,7 @@ use rv_isa::{Rv, encode};
 use std::alloc::Global;
 use std::marker::Model;
 
-/// Instructions that are put one behind another, each of which has a word. Contracts see their list.
+/// Instructions that are put one after another, each of which has a word. Contracts see their list.
 #[derive(Drop)]
 pub struct Assembler {
     code: Vec<Rv>,

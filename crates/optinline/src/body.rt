@@ -1,5 +1,8 @@
 use oi_base::Items;
 
+/// How many operations a body has at most.
+pub const MOST_OPS: usize = 400;
+
 /// What an operation takes: a register by its number, or a word.
 #[derive(Clone, Copy, Debug, PartialEq, Eq)]
 pub enum Value {

@@ -1,50 +1,19 @@
 ghost use Rattle.std.specs.Prelude.{◌≡◌, ◌<◌, ◌≤◌, ◌+◌, ◌*◌, ◌++◌, ◌∷◌, [], OnOk, IfOk, All, length, pos, ◌≤ℤ◌};
-ghost use Rattle.rv_isa.specs.Words.{InRange, IsSigned};
-ghost use Rattle.oi_base.specs.Words.{signed_of};
+ghost use Rattle.rv_isa.specs.Words.{InRange};
+ghost use Rattle.optinline.specs.declared.body.TheConstants.{MOST_OPS};
 ghost use Rattle.optinline.specs.Bodies.{IsKnown, OpIsKnown, IsKnownBody};
-ghost use Rattle.rv_select.specs.Parts.{hi, lo, load_word, far_base, load_slot, store_slot, large_frame, frame_down, frame_up, open_frame, epilogue, stub};
+ghost use Rattle.rv_select.specs.Parts.{load_word, far_base, load_slot, store_slot, large_frame, frame_down, frame_up, open_frame, epilogue, stub};
 ghost use Rattle.optinline.specs.Lowering.{slot, frame_size, load, machine_op, op_code, ops_code, main_code};
 
 use crate::assembler::Assembler;
 use crate::body::{Body, Op, Sum, Value};
 use oi_base::NoMemory;
 use rv_isa::{Rv, X};
+use rv_select::{hi, lo};
 use std::alloc::Global;
 
-/// The distance of `main` from the start stub, which has four instructions.
-const MAIN_DISTANCE: u32 = 16;
-
-/// The signed number of these bits, of which `sign` is the highest.
-fn signed(bits: u32, sign: u32) -> i32
-    requires sign { sign ≤ 524288 }
-    requires bits { bits < 2 * sign }
-    ensures { result ≡ signed_of (2 * sign) bits }
-{
-    if bits < sign {
-        bits as i32
-    } else {
-        bits as i32 - (2 * sign) as i32
-    }
-}
-
-/// The upper part of a word, for `lui` and `auipc`.
-#[tactic(auto, unfolding(rv_select::specs::Parts::hi))]
-fn hi(w: u32) -> i32
-    requires { w < 4294967296 }
-    ensures value { result ≡ hi w }
-    ensures range { IsSigned 19 result }
-{
-    signed(w.wrapping_add(2048) / 4096, 0x8_0000)
-}
-
-/// The lower part of a word, which an instruction behind them adds.
-#[tactic(auto, unfolding(rv_select::specs::Parts::lo))]
-fn lo(w: u32) -> i32
-    ensures value { result ≡ lo w }
-    ensures range { IsSigned 11 result }
-{
-    signed(w % 4096, 2048)
-}
+/// The bytes of the start stub, which has four instructions and calls `main` after it.
+pub const STUB_SIZE: u32 = 16;
 
 /// Appends what loads a word into a register.
 #[tactic(auto, unfolding(rv_select::specs::Parts::load_word))]
@@ -148,7 +117,7 @@ fn push_epilogue(code: &mut Assembler, frame: u32) -> Result<(), NoMemory>
 
 /// The offset of the slot of a register.
 fn slot(register: u32) -> u32
-    requires { register < 400 }
+    requires { register < MOST_OPS }
     ensures { result ≡ slot register }
 {
     4 * register + 4
@@ -157,7 +126,7 @@ fn slot(register: u32) -> u32
 /// Appends what loads a value into a register.
 fn push_value(code: &mut Assembler, r: X, value: Value) -> Result<(), NoMemory>
     requires register { r < 32 }
-    requires known { IsKnown 400 value }
+    requires known { IsKnown MOST_OPS value }
     ensures { OnOk result (code.new ≡ code.old ++ load r value) }
 {
     match value {
@@ -180,8 +149,8 @@ fn machine_op(sum: Sum) -> Rv
 /// Appends the code of the operation with this number.
 #[tactic(auto, unfolding(crate::specs::Lowering::op_code))]
 fn push_op(code: &mut Assembler, number: u32, op: Op) -> Result<(), NoMemory>
-    requires number { number < 400 }
-    requires known { OpIsKnown 400 op }
+    requires number { number < MOST_OPS }
+    requires known { OpIsKnown MOST_OPS op }
     ensures { OnOk result (code.new ≡ code.old ++ op_code number op) }
 {
     push_value(code, X::T0, op.left)?;
@@ -192,8 +161,8 @@ fn push_op(code: &mut Assembler, number: u32, op: Op) -> Result<(), NoMemory>
 
 /// Appends the code of operations.
 fn push_ops(code: &mut Assembler, ops: &[Op]) -> Result<(), NoMemory>
-    requires few { length ops.now ≤ 400 }
-    requires known { All (OpIsKnown 400) ops.now }
+    requires few { length ops.now ≤ MOST_OPS }
+    requires known { All (OpIsKnown MOST_OPS) ops.now }
     ensures { OnOk result (code.new ≡ code.old ++ ops_code 0 ops.now) }
 {
     for (number, op) in ops.iter().enumerate() {
@@ -204,7 +173,7 @@ fn push_ops(code: &mut Assembler, ops: &[Op]) -> Result<(), NoMemory>
 
 /// The size of the frame of a `main` with so many registers.
 fn frame_size(registers: u32) -> u32
-    requires { registers ≤ 400 }
+    requires { registers ≤ MOST_OPS }
     ensures { result ≡ frame_size registers }
 {
     (4 + 4 * registers).next_multiple_of(16)
@@ -227,13 +196,13 @@ fn push_main(code: &mut Assembler, body: &Body) -> Result<(), NoMemory>
 fn push_stub(code: &mut Assembler) -> Result<(), NoMemory>
     ensures { OnOk result (code.new ≡ code.old ++ stub 16) }
 {
-    code.push(Rv::Auipc(X::RA, hi(MAIN_DISTANCE)))?;
-    code.push(Rv::Jalr(X::RA, X::RA, lo(MAIN_DISTANCE)))?;
+    code.push(Rv::Auipc(X::RA, hi(STUB_SIZE)))?;
+    code.push(Rv::Jalr(X::RA, X::RA, lo(STUB_SIZE)))?;
     code.push(Rv::Addi(X::A7, X::ZERO, 3))?;
     code.push(Rv::Ecall)
 }
 
-/// The start stub, and the code of `main` behind it.
+/// The start stub, and the code of `main` after it.
 pub fn program(alloc: Global, body: &Body) -> Result<Assembler, NoMemory>
     requires { IsKnownBody body.now }
     ensures code { IfOk result (λ code. code ≡ stub 16 ++ main_code body.now) }

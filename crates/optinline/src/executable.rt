@@ -4,16 +4,14 @@ ghost use Rattle.optinline.specs.Lowering.{size, body_size};
 ghost use Rattle.optinline.specs.Executable.{image, main_function, object};
 
 use crate::body::Body;
-use crate::code::program;
+use crate::code::{STUB_SIZE, program};
 use elf_object::{Image, SymKind, Symbol, Symbols, write_elf};
 use oi_base::{Items, NoMemory, Text};
+use rv_isa::TEXT_START;
 use std::alloc::Global;
 
-/// Where `main` stands: behind the start stub.
-const MAIN_ADDRESS: u32 = 0x1_0010;
-
-/// The bytes of the start stub.
-const STUB_SIZE: usize = 16;
+/// The address of `main`: after the start stub.
+const MAIN_ADDRESS: u32 = TEXT_START + STUB_SIZE;
 
 /// An executable's file, and the sizes in bytes of its text and of the code of `main`.
 #[derive(Debug, Drop)]
@@ -25,7 +23,7 @@ pub struct Executable {
 
 /// The symbol of `main`.
 fn symbols(alloc: Global, size: u32) -> Result<Symbols, NoMemory>
-    ensures { IfOk result (λ s. s ≡ record { name = codes "main"; value = 65552; size = size; kind = SymKind.Func; global = true } ∷ []) }
+    ensures { IfOk result (λ s. s ≡ record { name = codes "main"; value = MAIN_ADDRESS; size = size; kind = SymKind.Func; global = true } ∷ []) }
 {
     let main = Symbol {
         name: Text::from_slice(alloc, b"main")?,
@@ -47,7 +45,7 @@ fn image(alloc: Global, body: &Body) -> Result<Image, NoMemory>
     ensures size { IfOk result (λ i. length i.text ≡ size body.now) }
 {
     let text = program(alloc, body)?.text(alloc)?;
-    let symbols = symbols(alloc, (text.len() - STUB_SIZE) as u32)?;
+    let symbols = symbols(alloc, (text.len() - STUB_SIZE as usize) as u32)?;
     Ok(Image {
         text,
         data_bytes: Text::new(alloc),
@@ -67,6 +65,6 @@ pub fn build_executable(alloc: Global, body: &Body) -> Result<Executable, NoMemo
     Ok(Executable {
         file: write_elf(alloc, &image)?,
         size,
-        body_size: size - STUB_SIZE,
+        body_size: size - STUB_SIZE as usize,
     })
 }

@@ -11,6 +11,7 @@ mod faults;
 mod laws;
 mod one_block;
 mod reply;
+mod status;
 #[cfg(test)]
 mod tests;
 mod unbuilt;
@@ -18,12 +19,10 @@ mod words;
 
 use command::tool;
 use oi_world::FileDesk;
+use status::NO_WORDS;
 use std::process::ExitCode;
 use std::rt::Env;
 use std::{env, io};
-
-/// The status where the system doesn't give the program's words, which `tool` never answers.
-const NO_WORDS: u8 = 19;
 
 /// The words after the program's name.
 fn given_words<R: Env + AllocGlobal>(rt: &R) -> io::Result<Vec<String>> {

@@ -3,6 +3,7 @@ ghost use Rattle.std.specs.List.{flat_map, position_or_len};
 ghost use Rattle.ir_core.specs.Proper.{IsProper};
 ghost use Rattle.ir_core.specs.Valid.{IsValid};
 ghost use Rattle.module_rules.specs.Faults.{numbers_of, with_numbers};
+ghost use Rattle.optinline.specs.declared.body.TheConstants.{MOST_OPS};
 ghost use Rattle.optinline.specs.Bodies.{IsKnownBody};
 ghost use Rattle.optinline.specs.Unbuilt.{unbuilt};
 ghost use Rattle.optinline.specs.MainBody.{value_in, sum_of, op_in, result_numbers, returned_in, body_of, no_body, first_block, first_func, main_body, IsBuilt, AreBuiltBlocks, AreBuiltFuncs};
@@ -83,7 +84,7 @@ fn add_result(numbers: &mut Numbers, instr: &Instr) -> Result<(), NoMemory>
 }
 
 fn ops_in(alloc: Global, numbers: &Numbers, code: &[Instr]) -> Result<Items<Op>, NoMemory>
-    requires { length numbers.now ≤ 400 }
+    requires { length numbers.now ≤ MOST_OPS }
     ensures { IfOk result (λ ops. ops ≡ map (λ i. op_in numbers.now i.op) code.now) }
 {
     let mut ops = Items::new(alloc);
@@ -94,7 +95,7 @@ fn ops_in(alloc: Global, numbers: &Numbers, code: &[Instr]) -> Result<Items<Op>,
 }
 
 fn op_in(numbers: &Numbers, op: &IrOp) -> Op
-    requires { length numbers.now ≤ 400 }
+    requires { length numbers.now ≤ MOST_OPS }
     ensures { result ≡ op_in numbers.now op.now }
 {
     match op {
@@ -121,7 +122,7 @@ fn sum_of(kind: BinOp) -> Sum
 }
 
 fn returned_in(numbers: &Numbers, end: &End) -> Value
-    requires { length numbers.now ≤ 400 }
+    requires { length numbers.now ≤ MOST_OPS }
     ensures { result ≡ returned_in numbers.now end.now }
 {
     match end {
@@ -131,7 +132,7 @@ fn returned_in(numbers: &Numbers, end: &End) -> Value
 }
 
 fn value_in(numbers: &Numbers, operand: &Operand) -> Value
-    requires { length numbers.now ≤ 400 }
+    requires { length numbers.now ≤ MOST_OPS }
     ensures { result ≡ value_in numbers.now operand.now }
 {
     match operand {
@@ -144,7 +145,7 @@ fn value_in(numbers: &Numbers, operand: &Operand) -> Value
 /// Where a register stands among these, or the number of all.
 #[tactic(auto, using(crate::proofs::Built::not_among))]
 fn number_of(numbers: &Numbers, x: u32) -> u32
-    requires { length numbers.now ≤ 400 }
+    requires { length numbers.now ≤ MOST_OPS }
     ensures { result ≡ position_or_len (nat_eq x) numbers.now }
 {
     match numbers.position(x) {

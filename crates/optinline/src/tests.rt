@@ -141,7 +141,7 @@ fn as_many_spaces_as_may_be(rt: HostRuntime) -> Result<(), Fail> {
     Ok(())
 }
 
-/// A module in each line, with `~` at the ends of its own lines, and behind a tab its status and what is said.
+/// A module in each line, with `~` at the ends of its own lines, and after a tab its status and what is said.
 const MODULES: &str = "\t4 module 1:1 rule 1
 define i32 @\"main\"() {~  ret i32 7~}\t0 text 40 candidates 0 inlined 0 nodes 1
 define dso_local i32 @main() #0 {~start:~  ret i32 4294967295~}~%T = type { i32 }~declare i32 @getchar()~attributes #0 = { noinline }~target triple = \"riscv32\"\t0 text 40 candidates 0 inlined 0 nodes 1

@@ -4,16 +4,14 @@ ghost use Rattle.ir_core.specs.declared.func.Instr.{Instr as instrs};
 ghost use Rattle.module_rules.specs.First.{earliest};
 ghost use Rattle.optinline.specs.Unbuilt.{is_simple, adds_or_subtracts, is_sum, returns_simple, instr_unbuilt, block_places, instr_places, block_unbuilt, main_unbuilt, func_unbuilt, global_unbuilt, unbuilt};
 
+use crate::body::MOST_OPS;
 use ir_core::{BinOp, Block, Const, End, Func, GlobalVar, Instr, Module, Op, Operand};
 use module_rules::has_main::is_main;
-use module_rules::{earlier, earlier_if, is_word};
+use module_rules::{earlier, earlier_if};
 use oi_base::Place;
 
-/// How many operations a block has at most.
-const MOST_OPS: usize = 400;
-
 /// The first place of what isn't built yet of a module, if there is any: a global variable, a definition but `main`, a block
-/// of `main` but its first, an instruction or a terminator of another form, and an operation behind 400.
+/// of `main` but its first, an instruction or a terminator of another form, and an operation after `MOST_OPS`.
 pub fn first_unbuilt(m: &Module) -> Option<Place>
     ensures { result ≡ earliest None (unbuilt m.now) }
 {
@@ -60,7 +58,7 @@ fn in_main(before: Option<Place>, blocks: &[Block]) -> Option<Place>
     in_blocks(in_further(before, blocks), blocks)
 }
 
-/// With the blocks behind the first.
+/// With the blocks after the first.
 fn in_further(before: Option<Place>, blocks: &[Block]) -> Option<Place>
     ensures { result ≡ earliest before (flat_map block_places (drop 1 blocks.now)) }
 {
@@ -108,10 +106,10 @@ fn in_code(before: Option<Place>, code: &[Instr]) -> Option<Place>
     first
 }
 
-/// With the operations behind the first 400.
+/// With the operations after the first `MOST_OPS`.
 #[tactic(auto, using(std::proofs::lemmas::List::drop_all))]
 fn in_late(before: Option<Place>, code: &[Instr]) -> Option<Place>
-    ensures { result ≡ earliest before (flat_map instr_places (drop 400 code.now)) }
+    ensures { result ≡ earliest before (flat_map instr_places (drop MOST_OPS code.now)) }
 {
     if code.len() <= MOST_OPS {
         return before;
@@ -135,7 +133,7 @@ fn is_sum(op: &Op) -> bool
 {
     match op {
         Op::Bin(kind, t, a, b) => {
-            adds_or_subtracts(*kind) && is_word(t) && is_simple(a) && is_simple(b)
+            adds_or_subtracts(*kind) && t.is_word() && is_simple(a) && is_simple(b)
         }
         _ => false,
     }
@@ -157,7 +155,7 @@ fn returns_simple(end: &End) -> bool
     ensures { result ≡ returns_simple end.now }
 {
     match end {
-        End::Ret(Some(v)) => is_word(&v.ty) && is_simple(&v.value),
+        End::Ret(Some(v)) => v.ty.is_word() && is_simple(&v.value),
         _ => false,
     }
 }

@@ -2,6 +2,7 @@
 -- "Immediate Encoding Variants" and "RV32/64G Instruction Set Listings").
 use Rattle.std.specs.Prelude.{ℕ, ◌+◌, ◌*◌, ◌^◌, nat_eq, if◌then◌else◌, List, [], ◌∷◌, Option, Some, None, ℤ, pos}
 use Rattle.oi_base.specs.Words.{signed_of}
+use Rattle.rv_isa.specs.declared.encoding.TheConstants.{ECALL_WORD, EBREAK_WORD}
 use Rattle.rv_isa.specs.Words.{field}
 use Rattle.rv_isa.specs.declared.rv.Rv.{Rv}
 use Rattle.rv_isa.specs.declared.rv.Rv.TheVariants.{Lui, Auipc, Jal, Jalr, Beq, Bne, Blt, Bge, Bltu, Bgeu, Lb, Lh, Lw, Lbu, Lhu, Sb, Sh, Sw, Addi, Slti, Sltiu, Xori, Ori, Andi, Slli, Srli, Srai, Add, Sub, Sll, Slt, Sltu, Xor, Srl, Sra, Or, And, Mul, Mulh, Mulhsu, Mulhu, Div, Divu, Rem, Remu, Fence, Ecall, Ebreak}
@@ -150,7 +151,7 @@ fence_of w = choose (funct3_of w) (
 
 -- these two are whole words
 unfoldable pub system_of : ℕ → Option Rv
-system_of w = choose w ((0x00000073, Some Ecall) ∷ (0x00100073, Some Ebreak) ∷ [])
+system_of w = choose w ((ECALL_WORD, Some Ecall) ∷ (EBREAK_WORD, Some Ebreak) ∷ [])
 
 -- the instruction of a word, by its opcode
 unfoldable pub decode_of : ℕ → Option Rv

@@ -3,6 +3,7 @@
 -- Division").
 use Rattle.std.specs.Prelude.{ℕ, ◌+◌, ◌-◌, ◌*◌, ◌/◌, ◌%◌, ◌^◌, Bool, not, ◌&&◌, nat_eq, nat_lt, if◌then◌else◌, List, [], ◌∷◌, ◌++◌, Option, Some, None, ℤ, pos, ◌*ℤ◌, int_lt, bit_and, bit_or, bit_xor}
 use Rattle.std.specs.Fn.{iterate}
+use Rattle.rv_isa.specs.declared.encoding.TheConstants.{EBREAK_WORD}
 use Rattle.rv_isa.specs.declared.rv.Rv.{Rv}
 use Rattle.rv_isa.specs.declared.rv.Rv.TheVariants.{Lui, Auipc, Jal, Jalr, Beq, Bne, Blt, Bge, Bltu, Bgeu, Lb, Lh, Lw, Lbu, Lhu, Sb, Sh, Sw, Addi, Slti, Sltiu, Xori, Ori, Andi, Slli, Srli, Srai, Add, Sub, Sll, Slt, Sltu, Xor, Srl, Sra, Or, And, Mul, Mulh, Mulhsu, Mulhu, Div, Divu, Rem, Remu, Fence, Ecall, Ebreak}
 use Rattle.rv_isa.specs.Arithmetic.{signed, to_word, wrapping_add, wrapping_sub, is_less, is_less_unsigned, shift_left, shift_right, shift_right_arithmetic, upper_half, quotient, quotient_unsigned, remainder, remainder_unsigned, sign_extended}
@@ -153,7 +154,7 @@ applied s m (Loads rd a n extended) = accessed s m Readable a n (sets m rd (exte
 applied s m (Stores a n v) = accessed s m Writable a n (record m { pc = m.pc + 4; memory = write m.memory n a v })
 applied s m Continues = record m { pc = m.pc + 4 }
 applied s m Calls = called m (m.registers a7) (m.registers a0)
-applied s m Breaks = stopped m (Illegal 0x00100073)
+applied s m Breaks = stopped m (Illegal EBREAK_WORD)
 
 abbrev pub executed : Segments → Machine → Rv → Machine
 executed s m i = applied s m (effect m.pc (x m.registers) i)

@@ -1,5 +1,6 @@
 -- The machine's memory: a map from addresses to bytes, and what may be done at which addresses.
 use Rattle.std.specs.Prelude.{ℕ, zero, suc, ◌+◌, ◌-◌, ◌*◌, ◌/◌, ◌%◌, Bool, ◌&&◌, ◌||◌, nat_eq, nat_le, nat_lt, if◌then◌else◌, List, length, slice_index_or}
+use Rattle.rv_isa.specs.declared.memory_map.TheConstants.{TEXT_START, DATA_START, GUARD_START, STACK_START, STACK_END, STACK_SIZE}
 
 -- what is loaded: the bytes of the text and of the data
 pub record Segments : Type 0 where
@@ -24,24 +25,24 @@ write bytes (suc n) a v = write (with_byte bytes a (v % 256)) n (a + 1) (v / 256
 -- ---- the parts of memory
 
 abbrev pub text_start : ℕ
-text_start = 0x00010000
+text_start = TEXT_START
 
 abbrev pub data_start : ℕ
-data_start = 0x10000000
+data_start = DATA_START
 
 -- the stack grows downwards from its end; below its start lies the guard
 abbrev pub guard_start : ℕ
-guard_start = 0x7FEDF000
+guard_start = GUARD_START
 
 abbrev pub stack_start : ℕ
-stack_start = 0x7FEFF000
+stack_start = STACK_START
 
 abbrev pub stack_end : ℕ
-stack_end = 0x7FFFF000
+stack_end = STACK_END
 
 -- from its start to its end
 abbrev pub stack_size : ℕ
-stack_size = 0x100000
+stack_size = STACK_SIZE
 
 -- n bytes from an address on lie between two addresses
 abbrev pub is_between : ℕ → ℕ → ℕ → ℕ → Bool

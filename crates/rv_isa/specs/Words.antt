@@ -2,6 +2,7 @@
 -- Instruction Formats", "Immediate Encoding Variants" and "RV32/64G Instruction Set Listings").
 use Rattle.std.specs.Prelude.{ℕ, ◌≡◌, ◌+◌, ◌-◌, ◌*◌, ◌/◌, ◌%◌, ◌^◌, ◌<◌, ℤ, pos, neg_ℤ, ◌≤ℤ◌, ◌<ℤ◌, unsigned_abs}
 use Rattle.oi_base.specs.Words.{word_of as word_modulo}
+use Rattle.rv_isa.specs.declared.encoding.TheConstants.{ECALL_WORD, EBREAK_WORD}
 use Rattle.rv_isa.specs.declared.rv.Rv.{Rv}
 use Rattle.rv_isa.specs.declared.rv.Rv.TheVariants.{Lui, Auipc, Jal, Jalr, Beq, Bne, Blt, Bge, Bltu, Bgeu, Lb, Lh, Lw, Lbu, Lhu, Sb, Sh, Sw, Addi, Slti, Sltiu, Xori, Ori, Andi, Slli, Srli, Srai, Add, Sub, Sll, Slt, Sltu, Xor, Srl, Sra, Or, And, Mul, Mulh, Mulhsu, Mulhu, Div, Divu, Rem, Remu, Fence, Ecall, Ebreak}
 
@@ -103,8 +104,8 @@ fields_of (Divu rd rs1 rs2) = RType 0x33 5 0x01 rd rs1 rs2
 fields_of (Rem rd rs1 rs2) = RType 0x33 6 0x01 rd rs1 rs2
 fields_of (Remu rd rs1 rs2) = RType 0x33 7 0x01 rd rs1 rs2
 fields_of (Fence rd rs1 imm) = IType 0x0F 0 rd rs1 imm
-fields_of Ecall = Whole 0x00000073
-fields_of Ebreak = Whole 0x00100073
+fields_of Ecall = Whole ECALL_WORD
+fields_of Ebreak = Whole EBREAK_WORD
 
 -- ---- words
 

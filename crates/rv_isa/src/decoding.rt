@@ -4,6 +4,7 @@ ghost use Rattle.rv_isa.specs.Words.{word_of, InRange};
 ghost use Rattle.rv_isa.specs.Decode.{decode_of, branch_of, load_of, store_of, op_imm_of, shift_left_of, shift_right_of, op_of, base_op_of, other_op_of, multiply_of, jalr_of, fence_of, system_of, opcode_of, funct3_of, funct7_of, rd_of, rs1_of, rs2_of, imm_i, imm_s, imm_b, imm_u, imm_j};
 ghost use Rattle.rv_isa.specs.declared.rv.Rv.{Rv};
 
+use crate::encoding::{EBREAK_WORD, ECALL_WORD};
 use crate::fields::field;
 use crate::rv::{Rv, X};
 
@@ -203,8 +204,8 @@ fn system(w: u32) -> Option<Rv>
     ensures { result ≡ system_of w }
 {
     match w {
-        0x0000_0073 => Some(Rv::Ecall),
-        0x0010_0073 => Some(Rv::Ebreak),
+        ECALL_WORD => Some(Rv::Ecall),
+        EBREAK_WORD => Some(Rv::Ebreak),
         _ => None,
     }
 }

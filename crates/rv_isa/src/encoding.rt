@@ -4,6 +4,12 @@ ghost use Rattle.rv_isa.specs.Words.{word_of, InRange, low_bits as low_bits_of, 
 use crate::fields::{field, low_bits, with};
 use crate::rv::{Rv, X};
 
+/// The word of `ecall`.
+pub const ECALL_WORD: u32 = 0x0000_0073;
+
+/// The word of `ebreak`.
+pub const EBREAK_WORD: u32 = 0x0010_0073;
+
 /// The word of an instruction (RISC-V Unprivileged ISA, "RV32/64G Instruction Set Listings").
 pub fn encode(i: Rv) -> u32
     requires { InRange i }
@@ -56,8 +62,8 @@ pub fn encode(i: Rv) -> u32
         Rv::Rem(rd, rs1, rs2) => r_word(6, 0x01, rd, rs1, rs2),
         Rv::Remu(rd, rs1, rs2) => r_word(7, 0x01, rd, rs1, rs2),
         Rv::Fence(rd, rs1, imm) => i_word(0x0f, 0, rd, rs1, imm),
-        Rv::Ecall => 0x0000_0073,
-        Rv::Ebreak => 0x0010_0073,
+        Rv::Ecall => ECALL_WORD,
+        Rv::Ebreak => EBREAK_WORD,
     }
 }
 

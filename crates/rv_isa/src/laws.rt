@@ -13,20 +13,20 @@ ghost use Rattle.rv_isa.specs.Laws.{Stands};
 ghost use Rattle.rv_isa.specs.Refines.{Refines};
 
 /// The word of an instruction has 32 bits, and decodes to that instruction.
-#[tactic(auto, using(crate::proofs::Below::word_below, crate::proofs::Complete::decodes))]
+#[tactic(auto, using(crate::proofs::WordBounds::word_below, crate::proofs::Completeness::decodes))]
 pub fn an_encoded_instruction_decodes()
     ensures below { (i : Rv) → InRange i → word_of i < 2 ^ 32 }
     ensures decodes { (i : Rv) → InRange i → decode_of (word_of i) ≡ Some i }
 {}
 
 /// What a machine has put is never taken back: the output only grows.
-#[tactic(auto, using(crate::proofs::Grows::output_grows))]
+#[tactic(auto, using(crate::proofs::OutputGrowth::output_grows))]
 pub fn output_only_grows()
     ensures { (s : Segments) (m : Machine) (n : ℕ) → IsPrefix m.output (iterate (step s) n m).output }
 {}
 
 /// A machine that stopped does nothing more.
-#[tactic(auto, using(crate::proofs::Grows::stopped_stays))]
+#[tactic(auto, using(crate::proofs::OutputGrowth::stopped_stays))]
 pub fn a_stopped_machine_stays()
     ensures { (s : Segments) (m : Machine) (n : ℕ) → m.stop ≢ Running → iterate (step s) n m ≡ m }
 {}
@@ -40,13 +40,13 @@ pub fn a_write_is_read()
 
 /// In a run of a loaded text that lies below the data, the instruction that stands at the pc is the one that
 /// is executed.
-#[tactic(auto, using(crate::proofs::Walk::stands_and_executes))]
+#[tactic(auto, using(crate::proofs::Stretches::stands_and_executes))]
 pub fn an_instruction_in_the_text_is_executed()
     ensures { (s : Segments) (input : List ℕ) (n : ℕ) (i : Rv) → text_start + length s.text ≤ data_start → (run s input n).stop ≡ Running → Stands s (run s input n).pc i → step s (run s input n) ≡ executed s (run s input n) i }
 {}
 
 /// No instruction changes the text, where it lies below the data.
-#[tactic(auto, using(crate::proofs::Fetched::text_stays))]
+#[tactic(auto, using(crate::proofs::KeptText::text_stays))]
 pub fn the_text_stays()
     ensures { (s : Segments) → text_start + length s.text ≤ data_start → (a : ℕ) → in_text s a 1 ≡ true → (m : Machine) (n : ℕ) → (iterate (step s) n m).memory a ≡ m.memory a }
 {}
@@ -59,7 +59,7 @@ pub fn worked_examples()
 {}
 
 /// An object that refines a follower of a run refines the run.
-#[tactic(auto, using(crate::proofs::Chain::refines_on))]
+#[tactic(auto, using(crate::proofs::RefinementChain::refines_on))]
 pub fn an_object_of_a_follower_refines()
     ensures { (largest : ℕ) (r s : ℕ → Seen) (o : ℕ → Machine) → Follows r s → Refines largest s o → Refines largest r o }
 {}

@@ -3,7 +3,7 @@ use Rattle.std.proofs.Common.{◌≡◌, ℕ, zero, suc, ◌+◌, ◌*◌, ◌/�
 use Rattle.std.proofs.lemmas.Bool.Decides.{nat_tests}
 use Rattle.rv_isa.specs.declared.rv.Rv.{Rv}
 use Rattle.rv_isa.specs.Decode.{decode_of}
-use Rattle.rv_isa.specs.Memory.{Readable, Writable, Executable, read, write, text_start}
+use Rattle.rv_isa.specs.Memory.{Readable, Writable, Executable, read, write, text_start, stack_size}
 use Rattle.rv_machine.specs.Bytes.{held}
 use Rattle.rv_machine.specs.Memory.{Contents, bytes_of, segments_of, IsMapped, IsDecoded, IsPlaced, refusal, unless_refused, fetched, or_illegal}
 use Rattle.rv_machine.specs.declared.stop.Stop.{Stop}
@@ -20,13 +20,13 @@ text_readable c a n at p = let f = p.free in let al = p.aligned in let e = p.wit
 data_readable : (c : Contents) (a n at : ℕ) → IsPlaced c a n (Data at) → refusal (segments_of c) Readable a n ≡ None
 data_readable c a n at p = let f = p.free in let al = p.aligned in let e = p.within.0 in let h = p.within.1 in grind (arith, nat_tests)
 
-stack_readable : (c : Contents) (a n at : ℕ) → length c.stack ≡ 1048576 → IsPlaced c a n (Stack at) → refusal (segments_of c) Readable a n ≡ None
+stack_readable : (c : Contents) (a n at : ℕ) → length c.stack ≡ stack_size → IsPlaced c a n (Stack at) → refusal (segments_of c) Readable a n ≡ None
 stack_readable c a n at z p = let f = p.free in let al = p.aligned in let e = p.within.0 in let h = p.within.1 in grind (arith, nat_tests)
 
 data_writable : (c : Contents) (a n at : ℕ) → IsPlaced c a n (Data at) → refusal (segments_of c) Writable a n ≡ None
 data_writable c a n at p = let f = p.free in let al = p.aligned in let e = p.within.0 in let h = p.within.1 in grind (arith, nat_tests)
 
-stack_writable : (c : Contents) (a n at : ℕ) → length c.stack ≡ 1048576 → IsPlaced c a n (Stack at) → refusal (segments_of c) Writable a n ≡ None
+stack_writable : (c : Contents) (a n at : ℕ) → length c.stack ≡ stack_size → IsPlaced c a n (Stack at) → refusal (segments_of c) Writable a n ≡ None
 stack_writable c a n at z p = let f = p.free in let al = p.aligned in let e = p.within.0 in let h = p.within.1 in grind (arith, nat_tests)
 
 -- ---- loads

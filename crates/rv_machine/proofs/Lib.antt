@@ -1,6 +1,6 @@
 pub mod Accesses
 pub mod Numbers
 pub mod Places
-pub mod Rooms
-pub mod Turning
-pub mod Zeros
+pub mod OutputRoom
+pub mod TurnLaws
+pub mod ZeroArrays

@@ -3,7 +3,7 @@ use Rattle.std.proofs.Common.{◌≡◌, ◌⊎◌, inl, inr, ℕ, ◌+◌, ◌-
 use Rattle.std.proofs.lemmas.Bool.Decides.{nat_tests}
 use Rattle.std.proofs.lemmas.Bool.{cases_lt}
 use Rattle.std.proofs.Math.Path.{fun_ext}
-use Rattle.rv_isa.specs.Memory.{read, write, text_start, data_start, stack_start, bytes_at_load}
+use Rattle.rv_isa.specs.Memory.{read, write, text_start, data_start, stack_start, bytes_at_load, stack_size}
 use Rattle.rv_isa.proofs.Bytes.{write_outside}
 use Rattle.rv_machine.specs.Bytes.{held}
 use Rattle.rv_machine.specs.Memory.{Contents, bytes_of, segments_of, IsMapped}
@@ -19,7 +19,7 @@ pub data_byte : (c : Contents) (k : ℕ) → IsMapped c → k < length c.data_by
 unfolding bytes_of
 data_byte c k m h = let t = m.text_most in grind (arith, nat_tests)
 
-pub stack_byte : (c : Contents) (k : ℕ) → IsMapped c → k < 1048576 → bytes_of c (stack_start + k) ≡ held c.stack k
+pub stack_byte : (c : Contents) (k : ℕ) → IsMapped c → k < stack_size → bytes_of c (stack_start + k) ≡ held c.stack k
 unfolding bytes_of
 stack_byte c k m h = let t = m.text_most in let d = m.data_most in grind (arith, nat_tests)
 
@@ -27,7 +27,7 @@ other_data : (c : Contents) (new : List ℕ) (q : ℕ) → length new ≡ length
 unfolding bytes_of
 other_data c new q e h = grind (arith, nat_tests)
 
-other_stack : (c : Contents) (new : List ℕ) (q : ℕ) → (q < stack_start) ⊎ (stack_start + 1048576 ≤ q) → bytes_of (record c { stack = new }) q ≡ bytes_of c q
+other_stack : (c : Contents) (new : List ℕ) (q : ℕ) → (q < stack_start) ⊎ (stack_start + stack_size ≤ q) → bytes_of (record c { stack = new }) q ≡ bytes_of c q
 unfolding bytes_of
 other_stack c new q h = grind (arith, nat_tests)
 
@@ -71,7 +71,7 @@ write_stack c new n at v m e written fits =
     let c' : Contents = record c { stack = new } in
     let z = m.stack_size in
     let m' : IsMapped c' = record { text_most = m.text_most; data_most = m.data_most; stack_size = omega arith } in
-    written_part (bytes_of c) (bytes_of c') (held c.stack) (held new) stack_start 1048576 at n v (λ k lt. stack_byte c k m lt) (λ k lt. stack_byte c' k m' lt) (λ q h. other_stack c new q h) written (omega arith)
+    written_part (bytes_of c) (bytes_of c') (held c.stack) (held new) stack_start stack_size at n v (λ k lt. stack_byte c k m lt) (λ k lt. stack_byte c' k m' lt) (λ q h. other_stack c new q h) written (omega arith)
 
 -- ---- at load
 

@@ -3,6 +3,8 @@ use Rattle.std.specs.Prelude.{ℕ, ◌≡◌, ◌+◌, ◌-◌, ◌*◌, ◌<◌
 use Rattle.rv_isa.specs.declared.rv.Rv.{Rv}
 use Rattle.rv_isa.specs.Decode.{decode_of}
 use Rattle.rv_isa.specs.Memory.{Segments, Permission, read, in_text, in_data, in_stack, touches_guard, is_permitted, is_aligned, text_start, data_start, stack_start}
+use Rattle.rv_isa.specs.declared.memory_map.TheConstants.{STACK_SIZE}
+use Rattle.elf_object.specs.declared.image.TheConstants.{LARGEST_TEXT, LARGEST_DATA}
 use Rattle.rv_machine.specs.Bytes.{held}
 use Rattle.rv_machine.specs.declared.stop.Stop.{Stop}
 use Rattle.rv_machine.specs.declared.stop.Stop.TheVariants.{Access, Illegal}
@@ -29,9 +31,9 @@ bytes_of c a =
 
 -- the bounds of the parts
 pub record IsMapped (c : Contents) : Type 0 where
-  pub text_most : length c.text ≤ 4194304
-  pub data_most : length c.data_bytes ≤ 1048576
-  pub stack_size : length c.stack ≡ 1048576
+  pub text_most : length c.text ≤ LARGEST_TEXT
+  pub data_most : length c.data_bytes ≤ LARGEST_DATA
+  pub stack_size : length c.stack ≡ STACK_SIZE
 
 -- the instructions of the text's words, in order
 pub record IsDecoded (text : List ℕ) (code : List (Option Rv)) : Type 0 where

@@ -6,6 +6,7 @@ use Rattle.rv_isa.specs.Isa as isa
 use Rattle.rv_isa.specs.Isa.{step, loaded}
 use Rattle.rv_machine.specs.Bytes.{held}
 use Rattle.rv_machine.specs.Memory.{Contents, bytes_of}
+use Rattle.rv_machine.specs.declared.streams.TheConstants.{OUTPUT_ROOM}
 use Rattle.rv_machine.specs.declared.stop.Stop.{Stop}
 use Rattle.rv_machine.specs.declared.stop.Stop.TheVariants.{Running, Exit, Access, Stack, Illegal, BadCall, OutputFull}
 
@@ -13,7 +14,7 @@ use Rattle.rv_machine.specs.declared.stop.Stop.TheVariants.{Running, Exit, Acces
 
 -- how many bytes can be put
 abbrev pub output_room : ℕ
-output_room = 1048576
+output_room = OUTPUT_ROOM
 
 -- the machine of the definition, whose output has no bound, whether a put found no room, and how many instructions
 -- were carried out

@@ -29,7 +29,7 @@ impl Size {
 }
 
 /// So many zero bytes.
-#[tactic(auto, using(crate::proofs::Zeros::held_replicate))]
+#[tactic(auto, using(crate::proofs::ZeroArrays::held_replicate))]
 pub fn zeros(alloc: Global, len: usize) -> Result<Vec<u8>, NoMemory>
     ensures len { IfOk result (λ v. length v.items ≡ len) }
     ensures zeros { IfOk result (λ v. (q : ℕ) → held v.items q ≡ 0) }

@@ -11,19 +11,15 @@ ghost use Rattle.rv_machine.specs.declared.stop.Stop.TheVariants as halt;
 
 use crate::bytes::Size;
 use crate::effect::{Effect, Extension, effect_of};
-use crate::map::TEXT_START;
 use crate::memory::Memory;
 use crate::registers::Registers;
 use crate::stop::Stop;
 use crate::streams::Streams;
 use elf_object::Image;
 use oi_base::{NoMemory, Text, Width, sext};
-use rv_isa::{Rv, X};
+use rv_isa::{EBREAK_WORD, Rv, TEXT_START, X};
 use std::alloc::Global;
 use std::marker::Model;
-
-/// The word of `ebreak`.
-const EBREAK: u32 = 0x0010_0073;
 
 /// A machine with an image in its memory.
 #[derive(Drop)]
@@ -118,7 +114,7 @@ impl Machine {
     }
 
     /// Takes a turn of a machine that runs.
-    #[tactic(auto, using(crate::proofs::Turning::step_running, crate::proofs::Turning::fetch_ok, crate::proofs::Turning::fetch_err))]
+    #[tactic(auto, using(crate::proofs::TurnLaws::step_running, crate::proofs::TurnLaws::fetch_ok, crate::proofs::TurnLaws::fetch_err))]
     fn turn(&mut self)
         requires running { self.old.stop ≡ halt.Running }
         requires steps { self.old.steps + 1 < 2 ^ 64 }
@@ -294,7 +290,7 @@ impl Machine {
             Effect::Stores(address, size, word) => self.store(address, size, word),
             Effect::Continues => self.go_to(self.pc + 4),
             Effect::Calls => self.call(),
-            Effect::Breaks => self.halt(Stop::Illegal(EBREAK)),
+            Effect::Breaks => self.halt(Stop::Illegal(EBREAK_WORD)),
         }
     }
 }

@@ -1,22 +1,11 @@
-//! Where the parts of memory stand.
+//! Where an access lies in the parts of memory.
 
 ghost use Rattle.std.specs.Prelude.{◌≡◌, ◌+◌, ◌<◌, ◌≤◌, ◌^◌, false, MatchOption};
 ghost use Rattle.rv_isa.specs.Memory.{touches_guard, is_between, is_aligned};
 ghost use Rattle.rv_machine.specs.Bytes.{size_of};
 
 use crate::bytes::Size;
-
-/// The address of the text.
-pub const TEXT_START: u32 = 0x0001_0000;
-
-/// The address of the data.
-pub const DATA_START: u32 = 0x1000_0000;
-
-/// The address of the stack, which has 1,048,576 bytes.
-pub const STACK_START: u32 = 0x7fef_f000;
-
-/// The address of the guard, which ends where the stack starts.
-const GUARD_START: u32 = 0x7fed_f000;
+use rv_isa::{GUARD_START, STACK_START};
 
 /// One of an access's bytes lies in the guard.
 pub fn touches_guard(address: u32, size: Size) -> bool

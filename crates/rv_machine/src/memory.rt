@@ -4,16 +4,13 @@ ghost use Rattle.rv_machine.specs.Bytes.{size_of};
 ghost use Rattle.rv_machine.specs.Memory.{segments_of, bytes_of, refusal, unless_refused, fetched, IsPlaced, IsDecoded, KeepsText};
 
 use crate::bytes::{Size, number_at, put_number, zeros};
-use crate::map::{DATA_START, STACK_START, TEXT_START, is_aligned, place_in, touches_guard};
+use crate::map::{is_aligned, place_in, touches_guard};
 use crate::stop::Stop;
 use elf_object::Image;
 use oi_base::NoMemory;
-use rv_isa::{Rv, decode};
+use rv_isa::{DATA_START, Rv, STACK_SIZE, STACK_START, TEXT_START, decode};
 use std::alloc::Global;
 use std::marker::Model;
-
-/// The size of the stack in bytes.
-const STACK_SIZE: usize = 1_048_576;
 
 /// A part of the memory, and a place in it.
 #[derive(Clone, Copy)]
@@ -54,7 +51,7 @@ impl Memory {
         let text = Vec::from_slice(alloc, image.text.as_slice())?;
         let code = decoded(alloc, &text)?;
         let data_bytes = Vec::from_slice(alloc, image.data_bytes.as_slice())?;
-        let stack = zeros(alloc, STACK_SIZE)?;
+        let stack = zeros(alloc, STACK_SIZE as usize)?;
         Ok(Memory {
             text,
             code,

@@ -3,11 +3,8 @@ ghost use Rattle.rv_isa.specs.Memory.{stack_end};
 ghost use Rattle.rv_isa.specs.Isa.{x, with_register};
 ghost use Rattle.rv_machine.specs.Bytes.{held};
 
-use rv_isa::X;
+use rv_isa::{STACK_END, X};
 use std::marker::Model;
-
-/// The end of the stack, where it begins to grow downwards.
-const STACK_END: u32 = 0x7fff_f000;
 
 /// The integer registers. Contracts see the list of what was last written to each; `x0` reads zero,
 /// whatever was written to it.

@@ -7,7 +7,7 @@ use std::alloc::Global;
 use std::marker::Model;
 
 /// How many bytes can be put.
-const OUTPUT_ROOM: usize = 1_048_576;
+pub const OUTPUT_ROOM: usize = 1_048_576;
 
 /// The streams of the environment. Contracts see what can still be got, and what was put.
 #[derive(Drop)]

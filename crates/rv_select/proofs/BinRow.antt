@@ -45,7 +45,7 @@ zero_runs s m kept W16 m1 pc sp mid has =
 zero_runs s m kept W32 m1 pc sp mid has =
     record { after = m1; mid = subst (λ n. Mid s m m1 n sp) (let e : pc ≡ pc + 0 = omega arith in e) mid; value = refl; others = λ q h. refl }
 
--- the code of an operation, one part behind another
+-- the code of an operation, one part after another
 pub nested : (a b : List Rv) (i : Rv) (c d : List Rv) → a ++ b ++ [] ++ i ∷ [] ++ c ++ d ≡ a ++ (b ++ (i ∷ (c ++ d)))
 nested a b i c d =
     let e1 : a ++ b ++ [] ++ i ∷ [] ≡ a ++ (b ++ (i ∷ [])) = append_assoc (a ++ b) [] (i ∷ []) ∙ append_assoc a b (i ∷ []) in

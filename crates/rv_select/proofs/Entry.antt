@@ -1,4 +1,5 @@
 -- The entry of a function: the frame is taken and the return address kept, or the stack ends.
+use Rattle.frame_layout.specs.declared.laying.TheConstants.{LARGEST_FRAME}
 use Rattle.std.proofs.Common.{◌≡◌, ℕ, ◌+◌, ◌-◌, ◌*◌, ◌%◌, ◌<◌, ◌≤◌, refl, ap, ◌∙◌, subst, arith, [], ◌∷◌, length, length-append, pos}
 use Rattle.std.proofs.lemmas.Bool.Decides.{nat_tests}
 use Rattle.rv_isa.specs.declared.rv.Rv.TheVariants as rv
@@ -8,12 +9,12 @@ use Rattle.rv_isa.specs.Isa.{Machine, Running, Stack, executed, applied, Stores,
 use Rattle.rv_isa.specs.Laws.{Kept, Holds}
 use Rattle.rv_select.specs.Parts.{frame_down, open_frame}
 use Rattle.rv_select.proofs.Items.{begin, executes_at, Moves, moves_on, holds_front, holds_back}
-use Rattle.rv_select.proofs.Moving.{down_runs}
+use Rattle.rv_select.proofs.FrameMoves.{down_runs}
 use Rattle.rv_select.proofs.Stores.{Stored, word_stored}
 
 module _ (s : Segments) (m : Machine) (kept : Kept s m) where
   -- the frame fits: the return address is at its place 0
-  pub opened : (pc sp f back : ℕ) → m.stop ≡ Running → m.pc ≡ pc → m.registers 2 ≡ sp → m.registers 1 ≡ back → f ≤ 65536 → sp ≤ stack_end → sp % 16 ≡ 0 → f % 16 ≡ 0 → 4 ≤ f → stack_start + f ≤ sp → Holds s pc (open_frame f) → Stored s m (sp - f) back (pc + 4 * length (open_frame f)) (sp - f)
+  pub opened : (pc sp f back : ℕ) → m.stop ≡ Running → m.pc ≡ pc → m.registers 2 ≡ sp → m.registers 1 ≡ back → f ≤ LARGEST_FRAME → sp ≤ stack_end → sp % 16 ≡ 0 → f % 16 ≡ 0 → 4 ≤ f → stack_start + f ≤ sp → Holds s pc (open_frame f) → Stored s m (sp - f) back (pc + 4 * length (open_frame f)) (sp - f)
   opened pc sp f back running at_pc at_sp at_ra small high whole even some room has =
       let d = frame_down f in
       let i = rv.Sw 2 1 (pos 0) in
@@ -25,7 +26,7 @@ module _ (s : Segments) (m : Machine) (kept : Kept s m) where
       subst (λ n. Stored s m (sp - f) back n (sp - f)) end (word_stored s m kept g.after pc1 (sp - f) 1 2 (pos 0) (sp - f) back g.mid same place (omega arith) (omega arith) (omega arith) (holds_back s pc d (i ∷ []) has).0)
 
   -- it doesn't: the machine stops in the guard, for want of stack
-  pub unopened : (pc sp f : ℕ) → m.stop ≡ Running → m.pc ≡ pc → m.registers 2 ≡ sp → f ≤ 65536 → stack_start ≤ sp → sp ≤ stack_end → sp < stack_start + f → Holds s pc (open_frame f) → (m' : Machine) × Moves s m m' × (m'.stop ≡ Stack (sp - f)) × (m'.output ≡ m.output)
+  pub unopened : (pc sp f : ℕ) → m.stop ≡ Running → m.pc ≡ pc → m.registers 2 ≡ sp → f ≤ LARGEST_FRAME → stack_start ≤ sp → sp ≤ stack_end → sp < stack_start + f → Holds s pc (open_frame f) → (m' : Machine) × Moves s m m' × (m'.stop ≡ Stack (sp - f)) × (m'.output ≡ m.output)
   unopened pc sp f running at_pc at_sp small low high no_room has =
       let d = frame_down f in
       let i = rv.Sw 2 1 (pos 0) in

@@ -5,7 +5,7 @@ use Rattle.rv_isa.specs.declared.rv.Rv.{Rv}
 use Rattle.rv_isa.specs.Memory.{Segments}
 use Rattle.rv_isa.specs.Isa.{Machine, Running, step, executed, sets, x, with_register}
 use Rattle.rv_isa.specs.Laws.{Kept, Stands, Holds}
-use Rattle.rv_isa.proofs.Walk.{fetch, Path, stay, one_turn, join, join_counts, one_counts}
+use Rattle.rv_isa.proofs.Stretches.{fetch, Path, stay, one_turn, join, join_counts, one_counts}
 
 -- within a row: from m the machine came to m', and nothing changed but registers
 pub record Mid (s : Segments) (m m' : Machine) (pc sp : ℕ) : Type 0 where
@@ -44,7 +44,7 @@ pub record Moves (s : Segments) (m m' : Machine) : Type 0 where
 pub moves_on : (s : Segments) (m m' m'' : Machine) → m'.output ≡ m.output → Path s m m' → m'.stop ≡ Running → step s m' ≡ m'' → Moves s m m''
 moves_on s m m' m'' o p run e = record { path = join s m m' m'' o p (one_turn s m' m'' run e); moved = omega (arith, join_counts s m m' m'' o p (one_turn s m' m'' run e), one_counts s m' m'' run e) }
 
--- ---- codes one behind another
+-- ---- codes one after another
 
 pub holds_front : (s : Segments) (pc : ℕ) (a b : List Rv) → Holds s pc (a ++ b) → Holds s pc a
 holds_front s pc [] b h = tt

@@ -6,7 +6,7 @@ use Rattle.rv_isa.specs.Arithmetic.{to_word, wrapping_add}
 use Rattle.rv_isa.specs.Memory.{Segments, Readable, read, stack_start, stack_end}
 use Rattle.rv_isa.specs.Isa.{Machine, executed, applied, Loads, sets, x, offset}
 use Rattle.rv_isa.specs.Laws.{Kept, Holds}
-use Rattle.rv_isa.proofs.Fetched.{accessed_goes}
+use Rattle.rv_isa.proofs.KeptText.{accessed_goes}
 use Rattle.rv_select.specs.Parts.{zero_register, sp as sp_number, hi, lo, is_short, load_word, far_base, load_slot}
 use Rattle.rv_select.proofs.Halves.{upper, hi_lo, lo_short, hi_alone, hi_base_lo, small_sum}
 use Rattle.rv_select.proofs.Items.{Mid, Got, x_is, sets_runs, then_sets, ends_at}

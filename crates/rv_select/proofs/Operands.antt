@@ -2,7 +2,7 @@
 use Rattle.std.proofs.Common.{◌≡◌, ◌≢◌, ℕ, ◌+◌, ◌*◌, ◌%◌, ◌<◌, ◌≤◌, refl, sym, subst, arith, Bool, false, if◌then◌else◌, ◌∷◌, length, Some}
 use Rattle.ir_core.specs.declared.flat.FlatOp.{FlatOp}
 use Rattle.ir_core.specs.declared.flat.FlatOp.TheVariants.{Reg, Word, Null, Address, Poison}
-use Rattle.ir_core.specs.Memory.{Value, Bits, Nowhere, Poisoned, Memory}
+use Rattle.ir_core.specs.Memory.{Value, Bits, NullPointer, Poisoned, Memory}
 use Rattle.ir_core.specs.Flat.{Program, Run, value_of}
 use Rattle.rv_isa.specs.Memory.{Segments, read, stack_end}
 use Rattle.rv_isa.specs.Isa.{Machine}
@@ -64,6 +64,6 @@ module _ (o : Object) (p : Program) (at : ℕ → ℕ) (r : Run) (m : Machine) (
       let has' : Holds o.segments pc (load_slot t (here.slot q.0)) = subst (λ c. Holds o.segments pc (code c)) plain.1 has in
       subst (λ c. Brought o.segments m m1 r.memory at (pc + 4 * length (code c)) (m.registers 2) t v) (sym plain.1) (from_slot t q.0 v m1 pc nz two plain.0 plain.1 e mid has')
   brings t (Word w) v m1 pc nz two plain e mid has = from_word t w v m1 pc nz two plain (subst (λ y. IsWordOf r.memory at y w) (same_value (Bits w) v e) refl) mid has
-  brings t Null v m1 pc nz two plain e mid has = from_word t 0 v m1 pc nz two (omega arith) (subst (λ y. IsWordOf r.memory at y 0) (same_value Nowhere v e) refl) mid has
+  brings t Null v m1 pc nz two plain e mid has = from_word t 0 v m1 pc nz two (omega arith) (subst (λ y. IsWordOf r.memory at y 0) (same_value NullPointer v e) refl) mid has
   brings t Poison v m1 pc nz two plain e mid has = from_word t 0 v m1 pc nz two (omega arith) (subst (λ y. IsWordOf r.memory at y 0) (same_value Poisoned v e) tt) mid has
   brings t (Address g k) v m1 pc nz two plain e mid has = absurd plain

@@ -10,7 +10,7 @@ use Rattle.ir_core.specs.Flat.{entry_for}
 use Rattle.rv_select.specs.Lowered.{phis_of}
 use Rattle.rv_select.specs.Incoming.{value_for}
 
--- an entry comes before those behind it
+-- an entry comes before those after it
 pub entry_first : {X : Type 0} → (here this : Bool) (v rest old : Option X) → (if here && this then v else if here then rest else old) ≡ (if here then (if this then v else rest) else old)
 entry_first true true v rest old = refl
 entry_first true false v rest old = refl
@@ -59,7 +59,7 @@ next_phi phis here i p n f es old now new within is same before after =
     ∙ ap (λ o. if here && i == p then entry_for n es else o) before
     ∙ one_more_phi (λ q. value_for n (slice_get phis q)) here i p (entry_for n es) old value
 
--- an entry is added, and those behind it are in the table
+-- an entry is added, and those after it are in the table
 pub next_entry : (es : List Entry) (here : Bool) (i n : ℕ) (d : Entry) (old now new : Option FlatOp) → 0 < i → i ≤ length es → now ≡ (if here then entry_for n (drop i es) else old) → new ≡ (if here && (get_or es (i - 1) d).from.0 == n then Some (get_or es (i - 1) d).value else now) → new ≡ (if here then entry_for n (drop (i - 1) es) else old)
 next_entry es here i n d old now new some within before after =
     let e : Entry = get_or es (i - 1) d in

@@ -6,7 +6,7 @@ use Rattle.oi_base.specs.declared.words.Width.TheVariants.{W1, W8, W16, W32}
 use Rattle.oi_base.specs.Words.{modulus}
 use Rattle.ir_core.specs.declared.flat.BinOp.{BinOp}
 use Rattle.ir_core.specs.Words.{word_op, Known, divides}
-use Rattle.ir_core.specs.Memory.{Value, Bits, At, Nowhere, Poisoned, Memory}
+use Rattle.ir_core.specs.Memory.{Value, Bits, At, NullPointer, Poisoned, Memory}
 use Rattle.ir_core.specs.Rows.{Gives, NoGood, Mistyped, Is, IsPoison, IsOther, as_word, bin, bin_read, outcome, of_unknown}
 use Rattle.rv_isa.specs.Arithmetic.{wrapping_add, wrapping_sub}
 use Rattle.rv_select.specs.Stands.{IsWordOf, IsMade}
@@ -37,7 +37,7 @@ read_is m (Bits n) = by_test (nat_lt n m) refl
     by_test true e = number n refl (grind (arith, nat_tests)) (ap (λ (c : Bool). if c then Is n else IsOther) e)
     by_test false e = other (ap (λ (c : Bool). if c then Is n else IsOther) e)
 read_is m (At b o) = other refl
-read_is m Nowhere = other refl
+read_is m NullPointer = other refl
 read_is m Poisoned = poison refl refl
 
 -- what the operation gives stands for a word, and names no block

@@ -8,14 +8,14 @@ use Rattle.rv_isa.specs.Arithmetic.{to_word, wrapping_add}
 use Rattle.rv_isa.specs.Memory.{Segments, read, text_start}
 use Rattle.rv_isa.specs.Isa.{Machine, Exit, executed, stopped, called, sets, offset, with_register}
 use Rattle.rv_isa.specs.Laws.{Kept, Holds}
-use Rattle.rv_isa.proofs.Walk.{one_turn, join}
+use Rattle.rv_isa.proofs.Stretches.{one_turn, join}
 use Rattle.rv_select.specs.Parts.{frame_up, epilogue}
 use Rattle.rv_select.specs.Table.{Frame, load}
 use Rattle.rv_select.specs.Stands.{Object, return_to, goes_on, StandsFor, IsLaid}
 use Rattle.rv_select.specs.Sums.{IsPlain}
 use Rattle.rv_select.proofs.Items.{Mid, begin, sets_runs, executes_at, Moves, moves_on, with_other, holds_front, holds_back}
 use Rattle.rv_select.proofs.Loads.{lw_is}
-use Rattle.rv_select.proofs.Moving.{up_runs}
+use Rattle.rv_select.proofs.FrameMoves.{up_runs}
 use Rattle.rv_select.proofs.Operands.{brings}
 use Rattle.rv_select.proofs.Shape.{stack_shape}
 
@@ -37,7 +37,7 @@ module _ (o : Object) (p : Program) (laid : IsLaid o p) (at : ℕ → ℕ) (r : 
   here = o.frame r.top.func
 
   back_to_stub : read m.memory 4 (m.registers 2) ≡ text_start + 8
-  back_to_stub = st.frames.0.return_place ∙ ap (return_to (goes_on o)) first
+  back_to_stub = st.frames.0.return_address ∙ ap (return_to (goes_on o)) first
 
   -- the row of a return of a word from the first activation
   pub ret_row : (a : FlatOp) (n pc : ℕ) → m.pc ≡ pc → IsPlain here a → value_of r.top.regs a ≡ Some (Bits n) → Holds s pc (load o.global_at here 10 a ++ epilogue here.size) → (m' : Machine) × Moves s m m' × (m'.stop ≡ Exit n) × (m'.output ≡ m.output)
@@ -50,7 +50,7 @@ module _ (o : Object) (p : Program) (laid : IsLaid o p) (at : ℕ → ℕ) (r : 
       let shape = stack_shape r.memory at m.memory o.frame (goes_on o) sp (r.top ∷ r.below) st.frames in
       let above = stack_shape r.memory at m.memory o.frame (goes_on o) (sp + here.size) r.below st.frames.1 in
       let ok = st.frames.0.frame in
-      let return_place = ok.return_place in
+      let return_address = ok.return_address in
       let inside = ok.inside in
       let low = st.low in
       let pc1 = pc + 4 * length la in

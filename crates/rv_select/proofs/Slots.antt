@@ -19,7 +19,7 @@ frames_above mem at bytes frame goes_on s (c ∷ as') a w h st = (
   record {
     frame = st.0.frame;
     regs = λ r v low e. subst (λ y. IsKept ((frame c.func).is_alloca r) mem at v (s + (frame c.func).home r) y) (sym (read_outside bytes 4 4 a w (s + (frame c.func).slot r) (inr (omega arith)))) (st.0.regs r v low e);
-    return_place = read_outside bytes 4 4 a w s (inr (omega arith)) ∙ st.0.return_place;
+    return_address = read_outside bytes 4 4 a w s (inr (omega arith)) ∙ st.0.return_address;
   },
   frames_above mem at bytes frame goes_on (s + (frame c.func).size) as' a w (omega arith) st.1,
 )
@@ -91,7 +91,7 @@ module _ (o : Object) (p : Program) (at : ℕ → ℕ) (r : Run) (m m' : Machine
         record {
           frame = ok;
           regs = regs_written r.memory at m.memory here s r.top d.0 w v (r.top.place + 1) ok in_d slot_d is st.frames.0.regs;
-          return_place = read_outside m.memory 4 4 slot_at w s (inl (omega arith)) ∙ st.frames.0.return_place;
+          return_address = read_outside m.memory 4 4 slot_at w s (inl (omega arith)) ∙ st.frames.0.return_address;
         },
         frames_above r.memory at m.memory o.frame (goes_on o) (s + here.size) r.below slot_at w (omega arith) st.frames.1,
       ) in

@@ -11,7 +11,7 @@ use Rattle.rv_isa.specs.Arithmetic.{to_word, wrapping_add}
 use Rattle.rv_isa.specs.Memory.{Segments, read, write, in_text, bytes_at_load, text_start, data_start, stack_start, stack_end}
 use Rattle.rv_isa.specs.Isa.{Machine, Running, executed, loaded, offset, with_register}
 use Rattle.rv_isa.specs.Laws.{Kept, Holds}
-use Rattle.rv_isa.proofs.Walk.{kept_at_load, Path, one_turn, join}
+use Rattle.rv_isa.proofs.Stretches.{kept_at_load, Path, one_turn, join}
 use Rattle.rv_isa.proofs.Bytes.{read_back, write_outside}
 use Rattle.rv_select.specs.Parts.{hi, lo, call, frame_down, open_frame}
 use Rattle.rv_select.specs.Table.{Frame, prologue}
@@ -24,7 +24,7 @@ no_value : {v : Value} → None ≡ Some v → ⊥
 no_value e = cc
 
 module _ (s : Segments) (m : Machine) (kept : Kept s m) where
-  -- the machine that a call leads to: its pc, and the address behind the call in ra
+  -- the machine that a call leads to: its pc, and the address after the call in ra
   pub record Called (m' : Machine) (target back sp : ℕ) : Type 0 where
     pub path : Path s m m'
     pub pc_is : m'.pc ≡ target
@@ -78,10 +78,10 @@ module _ (o : Object) (p : Program) (laid : IsLaid o p) (input : List ℕ) (body
   code_aligned pc [] h has = absurd (omega arith)
   code_aligned pc (i ∷ code) h has = has.0.aligned
 
-  open_is : IsAt s (o.entry p.main) (o.place p.main 0 0) (Some (open_frame frame.size))
+  open_is : IsAt s (o.entry p.main) (o.address p.main 0 0) (Some (open_frame frame.size))
   open_is =
       let e = laid.entries p.main body in_main in
-      let e' = subst (λ n. IsAt s (o.entry p.main) (o.place p.main 0 0) (Some (prologue frame n))) no_parameters e in (
+      let e' = subst (λ n. IsAt s (o.entry p.main) (o.address p.main 0 0) (Some (prologue frame n))) no_parameters e in (
         holds_front s (o.entry p.main) (open_frame frame.size) [] e'.0,
         (let l = length-append (open_frame frame.size) [] in let h = e'.1 in omega arith),
       )
@@ -93,11 +93,11 @@ module _ (o : Object) (p : Program) (laid : IsLaid o p) (input : List ℕ) (body
   text_below a q low h = let text = laid.text in grind (arith, nat_tests)
 
   -- what the write of the return address leaves is the start
-  stands : (m' : Machine) → m'.pc ≡ o.place p.main 0 0 → m'.stop ≡ Running → m'.memory ≡ write (bytes_at_load s) 4 (stack_end - frame.size) (text_start + 8) → m'.input ≡ input → m'.output ≡ [] → m'.registers 2 ≡ stack_end - frame.size → StandsFor o p o.global_at (flat_start p input) m'
+  stands : (m' : Machine) → m'.pc ≡ o.address p.main 0 0 → m'.stop ≡ Running → m'.memory ≡ write (bytes_at_load s) 4 (stack_end - frame.size) (text_start + 8) → m'.input ≡ input → m'.output ≡ [] → m'.registers 2 ≡ stack_end - frame.size → StandsFor o p o.global_at (flat_start p input) m'
   stands m' at_pc running wrote in_is out_is sp_is =
       let ok = laid.frames p.main body in_main in
       let most = ok.most in
-      let return_place = ok.return_place in
+      let return_address = ok.return_address in
       let inside = ok.inside in
       let whole = ok.whole in
       let a = stack_end - frame.size in
@@ -114,7 +114,7 @@ module _ (o : Object) (p : Program) (laid : IsLaid o p) (input : List ℕ) (body
           record {
             frame = ok;
             regs = λ r v in_r e. absurd (no_value e);
-            return_place = ap₂ (λ (f : ℕ → ℕ) (q : ℕ). read f 4 q) wrote sp_is ∙ read_back (bytes_at_load s) 4 a (text_start + 8);
+            return_address = ap₂ (λ (f : ℕ → ℕ) (q : ℕ). read f 4 q) wrote sp_is ∙ read_back (bytes_at_load s) 4 a (text_start + 8);
           },
           (let z : m'.registers 2 + frame.size ≡ stack_end = omega (arith, sp_is) in z),
         );
@@ -151,7 +151,7 @@ module _ (o : Object) (p : Program) (laid : IsLaid o p) (input : List ℕ) (body
       let start = laid.start in
       let ok = laid.frames p.main body in_main in
       let most = ok.most in
-      let return_place = ok.return_place in
+      let return_address = ok.return_address in
       let inside = ok.inside in
       let distance = start.0 in
       let to_main = start.1 in

@@ -6,7 +6,7 @@ use Rattle.rv_isa.specs.Arithmetic.{to_word, wrapping_add}
 use Rattle.rv_isa.specs.Memory.{Segments, Writable, write, stack_start, stack_end}
 use Rattle.rv_isa.specs.Isa.{Machine, Running, executed, applied, Stores, sets, x, offset}
 use Rattle.rv_isa.specs.Laws.{Kept, Stands, Holds}
-use Rattle.rv_isa.proofs.Fetched.{accessed_goes}
+use Rattle.rv_isa.proofs.KeptText.{accessed_goes}
 use Rattle.rv_select.specs.Parts.{sp as sp_number, t2, hi, lo, far_base, store_slot}
 use Rattle.rv_select.proofs.Halves.{upper, hi_base_lo, small_sum}
 use Rattle.rv_select.proofs.Items.{Mid, x_is, sets_runs, Moves, moves_on, executes_at}

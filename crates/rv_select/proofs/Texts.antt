@@ -8,7 +8,7 @@ use Rattle.rv_isa.specs.declared.rv.Rv.{Rv}
 use Rattle.rv_isa.specs.Words.{word_of, InRange}
 use Rattle.rv_isa.specs.Memory.{Segments, read, bytes_at_load, text_start}
 use Rattle.rv_isa.specs.Laws.{Stands, Holds}
-use Rattle.rv_isa.proofs.Below.{word_below}
+use Rattle.rv_isa.proofs.WordBounds.{word_below}
 use Rattle.rv_select.specs.Texts.{bytes_of}
 
 abbrev pub four : ℕ → List ℕ
@@ -57,15 +57,15 @@ module _ (s : Segments) (short : length s.text ≤ 4194304) where
           (byte_at (text_start + n + 1 + 1 + 1) 3 (omega arith) (omega arith));
     }
 
-  holds_behind : (front code : List Rv) → s.text ≡ bytes_of (front ++ code) → All InRange code → Holds s (text_start + 4 * length front) code
-  holds_behind front [] is_text ranges = tt
-  holds_behind front (i ∷ code) is_text ranges =
+  holds_after : (front code : List Rv) → s.text ≡ bytes_of (front ++ code) → All InRange code → Holds s (text_start + 4 * length front) code
+  holds_after front [] is_text ranges = tt
+  holds_after front (i ∷ code) is_text ranges =
       let next : (front ++ i ∷ []) ++ code ≡ front ++ (i ∷ code) = append_assoc front (i ∷ []) code in
       let e : text_start + 4 * length (front ++ i ∷ []) ≡ text_start + 4 * length front + 4 = let l = length-append front (i ∷ []) in omega arith in (
         stands_there front i code is_text (ranges 0 i (omega arith)),
-        subst (λ a. Holds s a code) e (holds_behind (front ++ i ∷ []) code (is_text ∙ sym (ap bytes_of next)) (λ k d h. ranges (suc k) d (omega arith))),
+        subst (λ a. Holds s a code) e (holds_after (front ++ i ∷ []) code (is_text ∙ sym (ap bytes_of next)) (λ k d h. ranges (suc k) d (omega arith))),
       )
 
   -- the whole text
   pub text_holds : (code : List Rv) → s.text ≡ bytes_of code → All InRange code → Holds s text_start code
-  text_holds code is_text ranges = holds_behind [] code is_text ranges
+  text_holds code is_text ranges = holds_after [] code is_text ranges

@@ -6,7 +6,7 @@ use Rattle.rv_isa.specs.Memory.{Segments}
 use Rattle.rv_isa.specs.Isa.{Machine, Running, step}
 use Rattle.rv_select.specs.Stands.{Object, StandsFor}
 
--- the machine comes from one state to another in some steps, at least one, and puts nothing on the way
+-- the machine comes from one state to another in some steps, at least one, and puts nothing meanwhile
 pub record Reaches (s : Segments) (m m' : Machine) : Type 0 where
   pub count : ℕ
   pub some : 0 < count

@@ -1,4 +1,5 @@
--- Where blocks begin in a code under way.
+-- Where blocks begin in a code that is being built.
+use Rattle.rv_select.specs.declared.selecting.TheConstants.{LARGEST_CODE}
 use Rattle.std.specs.Prelude.{◌≡◌, ℕ, ◌+◌, ◌*◌, ◌<◌, min, All, List, [], ◌∷◌, length, slice_index_or}
 use Rattle.ir_core.specs.declared.flat.FlatBlock.{FlatBlock}
 use Rattle.frame_layout.specs.Offsets.{Offsets}
@@ -17,10 +18,10 @@ heads_from f blocks n at [] = []
 heads_from f blocks n at (k ∷ ks) = at ∷ heads_from f blocks (n + 1) (at + length (block f blocks n k)) ks
 
 -- where a block begins, in bytes; a block that is not there begins at the end
-abbrev pub place_in : List ℕ → ℕ → ℕ → ℕ
-place_in heads end b = 4 * slice_index_or heads b end
+abbrev pub offset_in : List ℕ → ℕ → ℕ → ℕ
+offset_in heads end b = 4 * slice_index_or heads b end
 
--- a code of so many bytes is refused since it is too long; a number that no `u64` holds is told as the greatest
+-- a code of so many bytes is refused since it is too long; a number that no `u64` holds is given as the greatest
 abbrev pub IsTooLong : ℕ → SelectFault → Type 0
-IsTooLong bytes (fault.NoSize n) = (n.cause ≡ Code) × (1000000 < bytes) × (n.number ≡ min bytes 18446744073709551615)
+IsTooLong bytes (fault.NoSize n) = (n.cause ≡ Code) × (LARGEST_CODE < bytes) × (n.number ≡ min bytes 18446744073709551615)
 IsTooLong bytes fault.NoMemory = Unit {0}

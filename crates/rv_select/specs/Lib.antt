@@ -1,6 +1,6 @@
 pub mod Carried
 pub mod Code
-pub mod Drafts
+pub mod Pending
 pub mod Heads
 pub mod Incoming
 pub mod Lowered

@@ -41,7 +41,7 @@ a7 = 17
 unfoldable pub hi : ℕ → ℤ
 hi x = signed_of 1048576 ((x + 2048) / 4096 % 1048576)
 
--- lo(x), which an instruction behind them adds: the signed number of the low 12 bits
+-- lo(x), which an instruction after them adds: the signed number of the low 12 bits
 unfoldable pub lo : ℕ → ℤ
 lo x = signed_of 4096 (x % 4096)
 
@@ -148,7 +148,7 @@ cuts o w = zero_extend w t0
 
 -- ---- calls
 
--- a call of what stands this many bytes behind its first instruction
+-- a call of what stands this many bytes after its first instruction
 abbrev pub call : ℕ → List Rv
 call distance = rv.Auipc ra (hi distance) ∷ rv.Jalr ra ra (lo distance) ∷ []
 

@@ -1,9 +1,10 @@
 -- When a state of the machine stands for a state of a run of flat bodies.
+use Rattle.frame_layout.specs.declared.laying.TheConstants.{LARGEST_FRAME}
 use Rattle.std.specs.Prelude.{◌≡◌, ◌≢◌, ◌⊎◌, ℕ, ◌+◌, ◌*◌, ◌/◌, ◌%◌, ◌^◌, ◌<◌, ◌≤◌, Bool, true, false, List, [], ◌∷◌, length, Option, Some, None, slice_get}
 use Rattle.ir_core.specs.declared.flat.FlatInstr.{FlatInstr}
 use Rattle.ir_core.specs.declared.flat.FlatBlock.{FlatBlock}
 use Rattle.ir_core.specs.declared.flat.FlatBody.{FlatBody}
-use Rattle.ir_core.specs.Memory.{Value, Bits, At, Nowhere, Poisoned, Byte, Unset, PoisonByte, Octet, PartOf, Block, Memory}
+use Rattle.ir_core.specs.Memory.{Value, Bits, At, NullPointer, Poisoned, Byte, Unset, PoisonByte, Octet, PartOf, Block, Memory}
 use Rattle.ir_core.specs.Rows.{is_live}
 use Rattle.ir_core.specs.Flat.{Program, Activation, Run, block_of}
 use Rattle.oi_base.specs.Follows.{Going}
@@ -16,28 +17,28 @@ use Rattle.rv_select.specs.Table.{Frame, instr_code, end_code, prologue}
 
 -- ---- the layout
 
--- A frame: each slot has its own four bytes, above the return place at 0 and below the slots' end, and homes lie behind it.
+-- A frame: each slot has its own four bytes, above the return address at 0 and below the slots' end, and homes lie after it.
 pub record IsFrame (f : Frame) : Type 0 where
   pub above : (r : ℕ) → r < f.regs → f.is_alloca r ≡ false → 4 ≤ f.slot r
   pub below : (r : ℕ) → r < f.regs → f.is_alloca r ≡ false → f.slot r + 4 ≤ f.slots_end
   pub aligned : (r : ℕ) → r < f.regs → f.is_alloca r ≡ false → f.slot r % 4 ≡ 0
   pub apart : (r q : ℕ) → r < f.regs → q < f.regs → f.is_alloca r ≡ false → f.is_alloca q ≡ false → r ≢ q → (f.slot r + 4 ≤ f.slot q) ⊎ (f.slot q + 4 ≤ f.slot r)
   pub homes : (r : ℕ) → r < f.regs → f.is_alloca r ≡ true → (f.slots_end ≤ f.home r) × (f.home r + f.home_size r ≤ f.size)
-  pub return_place : 4 ≤ f.slots_end
+  pub return_address : 4 ≤ f.slots_end
   pub inside : f.slots_end ≤ f.size
   pub whole : f.size % 16 ≡ 0
-  pub most : f.size ≤ 65536
+  pub most : f.size ≤ LARGEST_FRAME
 
 -- An object as its layout gives it: what is loaded, where globals lie, the functions' frames and where each begins, and
--- where the code of instruction k of block b of function f stands, or behind the last one that of the block's end.
+-- where the code of instruction k of block b of function f stands, or after the last one that of the block's end.
 pub record Object : Type 0 where
   pub segments : Segments
   pub global_at : ℕ → ℕ
   pub frame : ℕ → Frame
   pub entry : ℕ → ℕ
-  pub place : ℕ → ℕ → ℕ → ℕ
+  pub address : ℕ → ℕ → ℕ → ℕ
 
--- a code stands from one place to another, and the table has it
+-- a code stands from one address to another, and the table has it
 abbrev pub IsAt : Segments → ℕ → ℕ → Option (List Rv) → Type 0
 IsAt s from to None = ⊥
 IsAt s from to (Some code) = Holds s from code × (from + 4 * length code ≡ to)
@@ -53,7 +54,7 @@ IsThere s from (Some code) = Holds s from code
 abbrev pub IsWordOf : Memory → (ℕ → ℕ) → Value → ℕ → Type 0
 IsWordOf mem at (Bits n) w = w ≡ n
 IsWordOf mem at (At b o) w = is_live (slice_get mem b) ≡ true → w ≡ (at b + o) % 4294967296
-IsWordOf mem at Nowhere w = w ≡ 0
+IsWordOf mem at NullPointer w = w ≡ 0
 IsWordOf mem at Poisoned w = Unit {0}
 
 -- the same of a byte; a part of a pointer is that byte of its word
@@ -83,16 +84,16 @@ IsKept false mem at v home w = IsWordOf mem at v w
 abbrev pub RegsStand : Memory → (ℕ → ℕ) → (ℕ → ℕ) → Frame → ℕ → Activation → Type 0
 RegsStand mem at bytes f s a = (r : ℕ) (v : Value) → r < f.regs → a.regs r ≡ Some v → IsKept (f.is_alloca r) mem at v (s + f.home r) (read bytes 4 (s + f.slot r))
 
--- where the machine goes on after a return: behind the call in the caller, or in the stub
+-- where the machine goes on after a return: after the call in the caller, or in the stub
 abbrev pub return_to : (Activation → ℕ) → List Activation → ℕ
 return_to goes_on [] = text_start + 8
 return_to goes_on (b ∷ bs) = goes_on b
 
--- an activation's frame at s, with its return place at 0
+-- an activation's frame at s, with its return address at 0
 pub record FrameStands (mem : Memory) (at bytes : ℕ → ℕ) (f : Frame) (s back : ℕ) (a : Activation) : Type 0 where
   pub frame : IsFrame f
   pub regs : RegsStand mem at bytes f s a
-  pub return_place : read bytes 4 s ≡ back
+  pub return_address : read bytes 4 s ≡ back
 
 -- the activations' frames fill the stack from s to its end
 abbrev pub FramesStand : Memory → (ℕ → ℕ) → (ℕ → ℕ) → (ℕ → Frame) → (Activation → ℕ) → ℕ → List Activation → Type 0
@@ -121,12 +122,12 @@ abbrev pub funcs : List Activation → List ℕ
 funcs [] = []
 funcs (a ∷ as') = a.func ∷ funcs as'
 
--- an address is none of the return places and slots of these functions' frames
+-- an address is none of the return addresses and slots of these functions' frames
 abbrev pub IsFree : (ℕ → Frame) → ℕ → List ℕ → ℕ → Type 0
 IsFree frame s [] q = Unit {0}
 IsFree frame s (f ∷ fs) q = ((q < s) ⊎ (s + (frame f).slots_end ≤ q)) × IsFree frame (s + (frame f).size) fs q
 
--- an address behind the text, below the stack or above sp, and none of the return places and slots
+-- an address after the text, below the stack or above sp, and none of the return addresses and slots
 abbrev pub IsOwn : (ℕ → Frame) → ℕ → List ℕ → ℕ → Type 0
 IsOwn frame s fs q = (data_start ≤ q) × ((q < stack_start) ⊎ (s ≤ q)) × IsFree frame s fs q
 
@@ -147,7 +148,7 @@ BytesMade mem = (i k : ℕ) (b : Block) (c : Byte) → slice_get mem i ≡ Some 
 
 -- where the machine goes on in an activation
 abbrev pub goes_on : Object → Activation → ℕ
-goes_on o a = o.place a.func a.block a.place
+goes_on o a = o.address a.func a.block a.place
 
 -- the state of the machine stands for the state of the run, where each block lies at its address
 pub record StandsFor (o : Object) (p : Program) (at : ℕ → ℕ) (r : Run) (m : Machine) : Type 0 where
@@ -180,7 +181,7 @@ pub record IsLaid (o : Object) (p : Program) : Type 0 where
   pub text : length o.segments.text ≤ 4194304
   pub frames : (f : ℕ) (body : FlatBody) → p.body f ≡ Some body → IsFrame (o.frame f)
   pub start : (distance : ℕ) × (text_start + distance ≡ o.entry p.main) × (distance < 4194304) × Holds o.segments text_start (stub distance)
-  pub entries : (f : ℕ) (body : FlatBody) → p.body f ≡ Some body → IsAt o.segments (o.entry f) (o.place f 0 0) (Some (prologue (o.frame f) body.params))
-  pub instructions : (f b k : ℕ) (block : FlatBlock) (i : FlatInstr) → block_of (p.body f) b ≡ Some block → slice_get block.code k ≡ Some i → IsAt o.segments (o.place f b k) (o.place f b (k + 1)) (instr_code o.global_at (o.frame f) i)
-  pub ends : (f b : ℕ) (block : FlatBlock) → block_of (p.body f) b ≡ Some block → IsThere o.segments (o.place f b (length block.code)) (end_code o.global_at (o.frame f) block.end)
+  pub entries : (f : ℕ) (body : FlatBody) → p.body f ≡ Some body → IsAt o.segments (o.entry f) (o.address f 0 0) (Some (prologue (o.frame f) body.params))
+  pub instructions : (f b k : ℕ) (block : FlatBlock) (i : FlatInstr) → block_of (p.body f) b ≡ Some block → slice_get block.code k ≡ Some i → IsAt o.segments (o.address f b k) (o.address f b (k + 1)) (instr_code o.global_at (o.frame f) i)
+  pub ends : (f b : ℕ) (block : FlatBlock) → block_of (p.body f) b ≡ Some block → IsThere o.segments (o.address f b (length block.code)) (end_code o.global_at (o.frame f) block.end)
   pub data_laid : DataIsLaid o p.globals

@@ -1,5 +1,5 @@
 ghost use Rattle.std.specs.Prelude.{◌≡◌, All, length};
-ghost use Rattle.rv_select.specs.Drafts.{IsItem};
+ghost use Rattle.rv_select.specs.Pending.{IsItem};
 
 use crate::item::Item;
 use std::marker::Model;
@@ -16,7 +16,7 @@ impl Model for Code {
 
     ghost Value = { List Item };
 
-    ghost use Rattle.rv_select.specs.Drafts.{IsItem};
+    ghost use Rattle.rv_select.specs.Pending.{IsItem};
 
     ghost view = { λ c. c.items.items };
 

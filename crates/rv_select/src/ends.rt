@@ -1,12 +1,12 @@
 ghost use Rattle.std.specs.Prelude.{◌≡◌, ◌++◌, ◌∷◌, [], ℕ, map, slice_get, OnOk, IfOk};
 ghost use Rattle.std.specs.List.{flat_map};
 ghost use Rattle.frame_layout.specs.Offsets.{shadow_of};
-ghost use Rattle.rv_select.specs.Drafts.{words, jump_to};
+ghost use Rattle.rv_select.specs.Pending.{words, jump_to};
 ghost use Rattle.rv_select.specs.Parts.{t0};
 ghost use Rattle.rv_select.specs.Incoming.{value_at, value_for, HasIncoming};
 ghost use Rattle.rv_select.specs.Lowered.{load_from, store_to, take_phi, head, load_entry, give_phi, give_phis, numbers, distinct_from, successors, before_end, jump, case_code, load_value, end_code};
 
-use crate::drafter::Drafter;
+use crate::builder::CodeBuilder;
 use crate::incoming::Incoming;
 use crate::instrs::{push_load, push_store};
 use crate::pieces::{push_epilogue, push_load_slot, push_store_slot, push_word};
@@ -18,7 +18,7 @@ use std::alloc::Global;
 use std::collections::HashSet;
 
 /// Appends what takes each phi's next value out of its shadow.
-pub fn push_head(code: &mut Drafter, f: &Frame, phis: &[Phi]) -> Result<(), NoMemory>
+pub fn push_head(code: &mut CodeBuilder, f: &Frame, phis: &[Phi]) -> Result<(), NoMemory>
     ensures { OnOk result (code.new ≡ code.old ++ head f.now phis.now) }
 {
     for phi in phis {
@@ -27,14 +27,14 @@ pub fn push_head(code: &mut Drafter, f: &Frame, phis: &[Phi]) -> Result<(), NoMe
     Ok(())
 }
 
-fn push_take_phi(code: &mut Drafter, f: &Frame, phi: &Phi) -> Result<(), NoMemory>
+fn push_take_phi(code: &mut CodeBuilder, f: &Frame, phi: &Phi) -> Result<(), NoMemory>
     ensures { OnOk result (code.new ≡ code.old ++ take_phi f.now phi.now) }
 {
     push_load_from(code, f.shadow(phi.reg))?;
     push_store(code, f, X::T0, phi.reg)
 }
 
-fn push_load_from(code: &mut Drafter, offset: Option<u32>) -> Result<(), NoMemory>
+fn push_load_from(code: &mut CodeBuilder, offset: Option<u32>) -> Result<(), NoMemory>
     ensures { OnOk result (code.new ≡ code.old ++ load_from t0 offset) }
 {
     match offset {
@@ -43,7 +43,7 @@ fn push_load_from(code: &mut Drafter, offset: Option<u32>) -> Result<(), NoMemor
     }
 }
 
-fn push_store_to(code: &mut Drafter, offset: Option<u32>) -> Result<(), NoMemory>
+fn push_store_to(code: &mut CodeBuilder, offset: Option<u32>) -> Result<(), NoMemory>
     ensures { OnOk result (code.new ≡ code.old ++ store_to t0 offset) }
 {
     match offset {
@@ -54,7 +54,7 @@ fn push_store_to(code: &mut Drafter, offset: Option<u32>) -> Result<(), NoMemory
 
 /// Appends what puts a phi's next value into its shadow.
 fn push_give_phi(
-    code: &mut Drafter,
+    code: &mut CodeBuilder,
     f: &Frame,
     phi: &Phi,
     value: Option<FlatOp>,
@@ -67,9 +67,9 @@ fn push_give_phi(
     push_store_to(code, f.shadow(phi.reg))
 }
 
-/// Appends what puts the next values of the phis of block `to` behind block `n` into their shadows.
+/// Appends what puts the next values of the phis of block `to` after block `n` into their shadows.
 fn push_give_phis(
-    code: &mut Drafter,
+    code: &mut CodeBuilder,
     f: &Frame,
     incoming: &Incoming,
     n: usize,
@@ -147,7 +147,7 @@ fn distinct(alloc: Global, blocks: &[BlockId]) -> Result<Vec<BlockId>, NoMemory>
 /// Appends what gives the phis of each successor their next values.
 pub fn push_before_end(
     alloc: Global,
-    code: &mut Drafter,
+    code: &mut CodeBuilder,
     f: &Frame,
     incoming: &Incoming,
     blocks: &[FlatBlock],
@@ -165,7 +165,7 @@ pub fn push_before_end(
 }
 
 fn push_give_to(
-    code: &mut Drafter,
+    code: &mut CodeBuilder,
     f: &Frame,
     incoming: &Incoming,
     blocks: &[FlatBlock],
@@ -182,8 +182,8 @@ fn push_give_to(
     }
 }
 
-/// Appends a jump to a block, unless it comes next behind block `n`.
-fn push_jump(code: &mut Drafter, n: usize, to: BlockId) -> Result<(), NoMemory>
+/// Appends a jump to a block, unless it comes next after block `n`.
+fn push_jump(code: &mut CodeBuilder, n: usize, to: BlockId) -> Result<(), NoMemory>
     ensures { OnOk result (code.new ≡ code.old ++ jump n to) }
 {
     if to.0 > 0 && (to.0 - 1) as usize == n {
@@ -192,7 +192,7 @@ fn push_jump(code: &mut Drafter, n: usize, to: BlockId) -> Result<(), NoMemory>
     code.jump(to)
 }
 
-fn push_case(code: &mut Drafter, case: Case) -> Result<(), NoMemory>
+fn push_case(code: &mut CodeBuilder, case: Case) -> Result<(), NoMemory>
     ensures { OnOk result (code.new ≡ code.old ++ case_code case) }
 {
     push_word(code, X::T1, case.word)?;
@@ -200,7 +200,7 @@ fn push_case(code: &mut Drafter, case: Case) -> Result<(), NoMemory>
     code.jump(case.to)
 }
 
-fn push_cases(code: &mut Drafter, cases: &[Case]) -> Result<(), NoMemory>
+fn push_cases(code: &mut CodeBuilder, cases: &[Case]) -> Result<(), NoMemory>
     ensures { OnOk result (code.new ≡ code.old ++ flat_map case_code cases.now) }
 {
     for case in cases {
@@ -209,7 +209,7 @@ fn push_cases(code: &mut Drafter, cases: &[Case]) -> Result<(), NoMemory>
     Ok(())
 }
 
-fn push_value(code: &mut Drafter, f: &Frame, value: Option<FlatOp>) -> Result<(), NoMemory>
+fn push_value(code: &mut CodeBuilder, f: &Frame, value: Option<FlatOp>) -> Result<(), NoMemory>
     ensures { OnOk result (code.new ≡ code.old ++ load_value f.now value) }
 {
     match value {
@@ -219,7 +219,7 @@ fn push_value(code: &mut Drafter, f: &Frame, value: Option<FlatOp>) -> Result<()
 }
 
 /// Appends the row of the end of block `n`.
-pub fn push_end(code: &mut Drafter, f: &Frame, n: usize, end: &FlatEnd) -> Result<(), NoMemory>
+pub fn push_end(code: &mut CodeBuilder, f: &Frame, n: usize, end: &FlatEnd) -> Result<(), NoMemory>
     ensures { OnOk result (code.new ≡ code.old ++ end_code f.now n end.now) }
 {
     match end {

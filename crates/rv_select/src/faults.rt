@@ -8,9 +8,9 @@ use thiserror::Error;
 pub enum Cause {
     /// Its weight, of at most 8,192.
     Weight,
-    /// Its frame, of at most 65,536 bytes.
+    /// Its frame, of at most `LARGEST_FRAME` bytes.
     Frame,
-    /// Its code, of at most 1,000,000 bytes.
+    /// Its code, of at most `LARGEST_CODE` bytes.
     Code,
 }
 

@@ -2,11 +2,11 @@ ghost use Rattle.std.specs.Prelude.{◌≡◌, ◌<◌, ◌≤◌, ◌+◌, ◌+
 ghost use Rattle.std.specs.List.{flat_map};
 ghost use Rattle.rv_isa.specs.Words.{InRange};
 ghost use Rattle.frame_layout.specs.Offsets.{slot_of, place_of};
-ghost use Rattle.rv_select.specs.Drafts.{words};
+ghost use Rattle.rv_select.specs.Pending.{words};
 ghost use Rattle.rv_select.specs.Parts.{t0, t1, signs, machine_op, cuts};
 ghost use Rattle.rv_select.specs.Lowered.{load, load_register, store, store_result, compared, width_of, test, choice, converted, fetched, put_down, scaled, term, constant_part, arguments, environment_call, instr, HasFewArguments};
 
-use crate::drafter::Drafter;
+use crate::builder::CodeBuilder;
 use crate::pieces::{
     push_home, push_load_slot, push_sign_extend, push_store_slot, push_word, push_zero_extend,
 };
@@ -16,7 +16,7 @@ use oi_base::{NoMemory, RegId, Width};
 use rv_isa::{Rv, X};
 
 /// Appends what loads an operand into a register.
-pub fn push_load(code: &mut Drafter, f: &Frame, r: X, o: FlatOp) -> Result<(), NoMemory>
+pub fn push_load(code: &mut CodeBuilder, f: &Frame, r: X, o: FlatOp) -> Result<(), NoMemory>
     requires { r < 32 }
     ensures { OnOk result (code.new ≡ code.old ++ load f.now r o) }
 {
@@ -28,7 +28,7 @@ pub fn push_load(code: &mut Drafter, f: &Frame, r: X, o: FlatOp) -> Result<(), N
     }
 }
 
-fn push_register(code: &mut Drafter, f: &Frame, r: X, q: RegId) -> Result<(), NoMemory>
+fn push_register(code: &mut CodeBuilder, f: &Frame, r: X, q: RegId) -> Result<(), NoMemory>
     requires { r < 32 }
     ensures { OnOk result (code.new ≡ code.old ++ load_register r (place_of f.now q.0) (slot_of f.now q.0)) }
 {
@@ -40,7 +40,7 @@ fn push_register(code: &mut Drafter, f: &Frame, r: X, q: RegId) -> Result<(), No
 }
 
 /// Appends what stores a register of the machine into the slot of a register of the body.
-pub fn push_store(code: &mut Drafter, f: &Frame, r: X, d: RegId) -> Result<(), NoMemory>
+pub fn push_store(code: &mut CodeBuilder, f: &Frame, r: X, d: RegId) -> Result<(), NoMemory>
     requires { r < 32 }
     ensures { OnOk result (code.new ≡ code.old ++ store f.now r d) }
 {
@@ -50,7 +50,7 @@ pub fn push_store(code: &mut Drafter, f: &Frame, r: X, d: RegId) -> Result<(), N
     }
 }
 
-fn push_result(code: &mut Drafter, f: &Frame, d: Option<RegId>) -> Result<(), NoMemory>
+fn push_result(code: &mut CodeBuilder, f: &Frame, d: Option<RegId>) -> Result<(), NoMemory>
     ensures { OnOk result (code.new ≡ code.old ++ store_result f.now d) }
 {
     match d {
@@ -60,7 +60,7 @@ fn push_result(code: &mut Drafter, f: &Frame, d: Option<RegId>) -> Result<(), No
 }
 
 /// Appends what loads two operands into t0 and t1.
-fn push_pair(code: &mut Drafter, f: &Frame, a: FlatOp, b: FlatOp) -> Result<(), NoMemory>
+fn push_pair(code: &mut CodeBuilder, f: &Frame, a: FlatOp, b: FlatOp) -> Result<(), NoMemory>
     ensures { OnOk result (code.new ≡ code.old ++ load f.now t0 a ++ load f.now t1 b) }
 {
     push_load(code, f, X::T0, a)?;
@@ -68,7 +68,7 @@ fn push_pair(code: &mut Drafter, f: &Frame, a: FlatOp, b: FlatOp) -> Result<(), 
 }
 
 /// Appends the signs that an operation asks for.
-fn push_signs(code: &mut Drafter, op: BinOp, w: Width) -> Result<(), NoMemory>
+fn push_signs(code: &mut CodeBuilder, op: BinOp, w: Width) -> Result<(), NoMemory>
     ensures { OnOk result (code.new ≡ code.old ++ words (signs op w)) }
 {
     match op {
@@ -103,7 +103,7 @@ fn machine_op(op: BinOp) -> Rv
 }
 
 /// Appends what cuts a result to its width, but where the operation cannot exceed it.
-fn push_cuts(code: &mut Drafter, op: BinOp, w: Width) -> Result<(), NoMemory>
+fn push_cuts(code: &mut CodeBuilder, op: BinOp, w: Width) -> Result<(), NoMemory>
     ensures { OnOk result (code.new ≡ code.old ++ words (cuts op w)) }
 {
     match op {
@@ -112,7 +112,7 @@ fn push_cuts(code: &mut Drafter, op: BinOp, w: Width) -> Result<(), NoMemory>
     }
 }
 
-fn push_operation(code: &mut Drafter, op: BinOp, w: Width) -> Result<(), NoMemory>
+fn push_operation(code: &mut CodeBuilder, op: BinOp, w: Width) -> Result<(), NoMemory>
     ensures { OnOk result (code.new ≡ code.old ++ words (signs op w) ++ words (machine_op op ∷ []) ++ words (cuts op w)) }
 {
     push_signs(code, op, w)?;
@@ -130,7 +130,7 @@ fn width_of(s: Scalar) -> Width
 }
 
 /// Appends the signs that a condition asks for.
-fn push_compared(code: &mut Drafter, c: Cmp, w: Width) -> Result<(), NoMemory>
+fn push_compared(code: &mut CodeBuilder, c: Cmp, w: Width) -> Result<(), NoMemory>
     ensures { OnOk result (code.new ≡ code.old ++ words (compared c w)) }
 {
     match c {
@@ -143,7 +143,7 @@ fn push_compared(code: &mut Drafter, c: Cmp, w: Width) -> Result<(), NoMemory>
 }
 
 /// Appends the test of t0 and t1.
-fn push_test(code: &mut Drafter, c: Cmp) -> Result<(), NoMemory>
+fn push_test(code: &mut CodeBuilder, c: Cmp) -> Result<(), NoMemory>
     ensures { OnOk result (code.new ≡ code.old ++ words (test c)) }
 {
     match c {
@@ -163,7 +163,7 @@ fn push_test(code: &mut Drafter, c: Cmp) -> Result<(), NoMemory>
     }
 }
 
-fn push_converted(code: &mut Drafter, c: CastOp, from: Width, to: Width) -> Result<(), NoMemory>
+fn push_converted(code: &mut CodeBuilder, c: CastOp, from: Width, to: Width) -> Result<(), NoMemory>
     ensures { OnOk result (code.new ≡ code.old ++ words (converted c from to)) }
 {
     match c {
@@ -198,7 +198,7 @@ fn put_down(s: Scalar) -> Rv
     }
 }
 
-fn push_scaled(code: &mut Drafter, stride: u32) -> Result<(), NoMemory>
+fn push_scaled(code: &mut CodeBuilder, stride: u32) -> Result<(), NoMemory>
     ensures { OnOk result (code.new ≡ code.old ++ scaled stride) }
 {
     if stride == 1 {
@@ -208,7 +208,7 @@ fn push_scaled(code: &mut Drafter, stride: u32) -> Result<(), NoMemory>
     code.push(Rv::Mul(X::T1, X::T1, X::T2))
 }
 
-fn push_term(code: &mut Drafter, f: &Frame, t: Term) -> Result<(), NoMemory>
+fn push_term(code: &mut CodeBuilder, f: &Frame, t: Term) -> Result<(), NoMemory>
     ensures { OnOk result (code.new ≡ code.old ++ term f.now t) }
 {
     push_load(code, f, X::T1, t.operand)?;
@@ -217,7 +217,7 @@ fn push_term(code: &mut Drafter, f: &Frame, t: Term) -> Result<(), NoMemory>
     code.push(Rv::Add(X::T0, X::T0, X::T1))
 }
 
-fn push_terms(code: &mut Drafter, f: &Frame, terms: &[Term]) -> Result<(), NoMemory>
+fn push_terms(code: &mut CodeBuilder, f: &Frame, terms: &[Term]) -> Result<(), NoMemory>
     ensures { OnOk result (code.new ≡ code.old ++ flat_map (term f.now) terms.now) }
 {
     for t in terms {
@@ -226,7 +226,7 @@ fn push_terms(code: &mut Drafter, f: &Frame, terms: &[Term]) -> Result<(), NoMem
     Ok(())
 }
 
-fn push_constant_part(code: &mut Drafter, k: u32) -> Result<(), NoMemory>
+fn push_constant_part(code: &mut CodeBuilder, k: u32) -> Result<(), NoMemory>
     ensures { OnOk result (code.new ≡ code.old ++ constant_part k) }
 {
     if k == 0 {
@@ -236,7 +236,7 @@ fn push_constant_part(code: &mut Drafter, k: u32) -> Result<(), NoMemory>
     code.push(Rv::Add(X::T0, X::T0, X::T1))
 }
 
-fn push_arguments(code: &mut Drafter, f: &Frame, args: &[FlatOp]) -> Result<(), NoMemory>
+fn push_arguments(code: &mut CodeBuilder, f: &Frame, args: &[FlatOp]) -> Result<(), NoMemory>
     requires { length args.now ≤ 8 }
     ensures { OnOk result (code.new ≡ code.old ++ arguments f.now 0 args.now) }
 {
@@ -246,14 +246,14 @@ fn push_arguments(code: &mut Drafter, f: &Frame, args: &[FlatOp]) -> Result<(), 
     Ok(())
 }
 
-fn push_environment_call(code: &mut Drafter, number: u8) -> Result<(), NoMemory>
+fn push_environment_call(code: &mut CodeBuilder, number: u8) -> Result<(), NoMemory>
     ensures { OnOk result (code.new ≡ code.old ++ words (environment_call number)) }
 {
     code.push_two(Rv::Addi(X::A7, X::ZERO, number as i32), Rv::Ecall)
 }
 
 /// Appends the row of an instruction.
-pub fn push_instr(code: &mut Drafter, f: &Frame, i: &FlatInstr) -> Result<(), NoMemory>
+pub fn push_instr(code: &mut CodeBuilder, f: &Frame, i: &FlatInstr) -> Result<(), NoMemory>
     requires { HasFewArguments i.now }
     ensures { OnOk result (code.new ≡ code.old ++ instr f.now i.now) }
 {
@@ -322,7 +322,7 @@ pub fn push_instr(code: &mut Drafter, f: &Frame, i: &FlatInstr) -> Result<(), No
 }
 
 /// Appends the choice of t1, or of t2 where t0 is 0.
-fn push_choice(code: &mut Drafter) -> Result<(), NoMemory>
+fn push_choice(code: &mut CodeBuilder) -> Result<(), NoMemory>
     ensures { OnOk result (code.new ≡ code.old ++ words choice) }
 {
     code.push_two(Rv::Bne(X::T0, X::ZERO, 8), Rv::Addi(X::T1, X::T2, 0))

@@ -13,9 +13,9 @@ pub enum Item {
     AddressLow(X, u32, u32),
 }
 
-/// An item of a code in which blocks have no places yet: as it is, or a `jal` whose distance is that of a block's head.
+/// An item of a code in which blocks have no offsets yet: as it is, or a `jal` whose distance is that of a block's head.
 #[derive(Clone, Copy, Debug, PartialEq, Eq)]
-pub struct Draft {
+pub struct PendingItem {
     pub item: Item,
     pub to: Option<BlockId>,
 }

@@ -2,8 +2,8 @@
 //! a run, and the law that an object so made does what its program does.
 #![tactic(auto)]
 
+mod builder;
 mod code;
-mod drafter;
 mod ends;
 mod faults;
 mod incoming;
@@ -17,4 +17,5 @@ pub use code::Code;
 pub use faults::{Cause, NoSize, SelectFault};
 pub use item::Item;
 pub use laws::{sums_are_carried_out, sums_are_refined, worked_codes};
-pub use selecting::select;
+pub use pieces::{hi, lo};
+pub use selecting::{LARGEST_CODE, select};

@@ -2,10 +2,10 @@ ghost use Rattle.std.specs.Prelude.{◌≡◌, ◌<◌, ◌≤◌, ◌+◌, ◌*
 ghost use Rattle.rv_isa.specs.declared.rv.Rv.TheVariants as rv;
 ghost use Rattle.rv_isa.specs.Words.{InRange, IsSigned};
 ghost use Rattle.oi_base.specs.Words.{signed_of};
-ghost use Rattle.rv_select.specs.Drafts.{words};
+ghost use Rattle.rv_select.specs.Pending.{words};
 ghost use Rattle.rv_select.specs.Parts.{hi, lo, load_word, far_base, load_slot, store_slot, load_home, load_address, frame_down, frame_up, open_frame, epilogue, zero_extend, sign_extend};
 
-use crate::drafter::Drafter;
+use crate::builder::CodeBuilder;
 use oi_base::{NoMemory, Width};
 use rv_isa::{Rv, X};
 
@@ -24,7 +24,7 @@ fn signed(bits: u32, sign: u32) -> i32
 
 /// The upper part of a word, for `lui` and `auipc`.
 #[tactic(auto, unfolding(crate::specs::Parts::hi))]
-fn hi(w: u32) -> i32
+pub fn hi(w: u32) -> i32
     requires { w < 4294967296 }
     ensures value { result ≡ hi w }
     ensures range { IsSigned 19 result }
@@ -32,9 +32,9 @@ fn hi(w: u32) -> i32
     signed(w.wrapping_add(2048) / 4096, 0x8_0000)
 }
 
-/// The lower part of a word, which an instruction behind them adds.
+/// The lower part of a word, which an instruction after them adds.
 #[tactic(auto, unfolding(crate::specs::Parts::lo))]
-fn lo(w: u32) -> i32
+pub fn lo(w: u32) -> i32
     ensures value { result ≡ lo w }
     ensures range { IsSigned 11 result }
 {
@@ -43,7 +43,7 @@ fn lo(w: u32) -> i32
 
 /// Appends what loads a word into a register.
 #[tactic(auto, unfolding(crate::specs::Parts::load_word))]
-pub fn push_word(code: &mut Drafter, r: X, w: u32) -> Result<(), NoMemory>
+pub fn push_word(code: &mut CodeBuilder, r: X, w: u32) -> Result<(), NoMemory>
     requires { r < 32 }
     ensures { OnOk result (code.new ≡ code.old ++ words (load_word r w)) }
 {
@@ -57,7 +57,7 @@ pub fn push_word(code: &mut Drafter, r: X, w: u32) -> Result<(), NoMemory>
 }
 
 /// Appends what puts the stack pointer and the upper part of an offset into a register.
-fn push_far_base(code: &mut Drafter, r: X, offset: u32) -> Result<(), NoMemory>
+fn push_far_base(code: &mut CodeBuilder, r: X, offset: u32) -> Result<(), NoMemory>
     requires { r < 32 }
     ensures { OnOk result (code.new ≡ code.old ++ words (far_base r offset)) }
 {
@@ -66,7 +66,7 @@ fn push_far_base(code: &mut Drafter, r: X, offset: u32) -> Result<(), NoMemory>
 
 /// Appends what loads the slot at an offset into a register.
 #[tactic(auto, unfolding(crate::specs::Parts::load_slot))]
-pub fn push_load_slot(code: &mut Drafter, r: X, offset: u32) -> Result<(), NoMemory>
+pub fn push_load_slot(code: &mut CodeBuilder, r: X, offset: u32) -> Result<(), NoMemory>
     requires { r < 32 }
     ensures { OnOk result (code.new ≡ code.old ++ words (load_slot r offset)) }
 {
@@ -79,7 +79,7 @@ pub fn push_load_slot(code: &mut Drafter, r: X, offset: u32) -> Result<(), NoMem
 
 /// Appends what stores a register into the slot at an offset.
 #[tactic(auto, unfolding(crate::specs::Parts::store_slot))]
-pub fn push_store_slot(code: &mut Drafter, r: X, offset: u32) -> Result<(), NoMemory>
+pub fn push_store_slot(code: &mut CodeBuilder, r: X, offset: u32) -> Result<(), NoMemory>
     requires { r < 32 }
     ensures { OnOk result (code.new ≡ code.old ++ words (store_slot r offset)) }
 {
@@ -92,7 +92,7 @@ pub fn push_store_slot(code: &mut Drafter, r: X, offset: u32) -> Result<(), NoMe
 
 /// Appends what puts the address of the memory at an offset into a register.
 #[tactic(auto, unfolding(crate::specs::Parts::load_home))]
-pub fn push_home(code: &mut Drafter, r: X, offset: u32) -> Result<(), NoMemory>
+pub fn push_home(code: &mut CodeBuilder, r: X, offset: u32) -> Result<(), NoMemory>
     requires { r < 32 }
     ensures { OnOk result (code.new ≡ code.old ++ words (load_home r offset)) }
 {
@@ -104,7 +104,7 @@ pub fn push_home(code: &mut Drafter, r: X, offset: u32) -> Result<(), NoMemory>
 }
 
 /// Appends what puts a word into a register in two instructions.
-fn push_high_low(code: &mut Drafter, r: X, w: u32) -> Result<(), NoMemory>
+fn push_high_low(code: &mut CodeBuilder, r: X, w: u32) -> Result<(), NoMemory>
     requires { r < 32 }
     ensures { OnOk result (code.new ≡ code.old ++ words (load_address r w)) }
 {
@@ -113,7 +113,7 @@ fn push_high_low(code: &mut Drafter, r: X, w: u32) -> Result<(), NoMemory>
 
 /// Appends what moves the stack pointer down by a frame.
 #[tactic(auto, unfolding(crate::specs::Parts::frame_down))]
-fn push_frame_down(code: &mut Drafter, frame: u32) -> Result<(), NoMemory>
+fn push_frame_down(code: &mut CodeBuilder, frame: u32) -> Result<(), NoMemory>
     ensures { OnOk result (code.new ≡ code.old ++ words (frame_down frame)) }
 {
     if frame <= 2032 {
@@ -125,7 +125,7 @@ fn push_frame_down(code: &mut Drafter, frame: u32) -> Result<(), NoMemory>
 
 /// Appends what moves the stack pointer up by a frame.
 #[tactic(auto, unfolding(crate::specs::Parts::frame_up))]
-fn push_frame_up(code: &mut Drafter, frame: u32) -> Result<(), NoMemory>
+fn push_frame_up(code: &mut CodeBuilder, frame: u32) -> Result<(), NoMemory>
     ensures { OnOk result (code.new ≡ code.old ++ words (frame_up frame)) }
 {
     if frame <= 2032 {
@@ -136,7 +136,7 @@ fn push_frame_up(code: &mut Drafter, frame: u32) -> Result<(), NoMemory>
 }
 
 /// Appends what opens a frame.
-pub fn push_open_frame(code: &mut Drafter, frame: u32) -> Result<(), NoMemory>
+pub fn push_open_frame(code: &mut CodeBuilder, frame: u32) -> Result<(), NoMemory>
     ensures { OnOk result (code.new ≡ code.old ++ words (open_frame frame)) }
 {
     push_frame_down(code, frame)?;
@@ -144,7 +144,7 @@ pub fn push_open_frame(code: &mut Drafter, frame: u32) -> Result<(), NoMemory>
 }
 
 /// Appends what closes a frame and returns.
-pub fn push_epilogue(code: &mut Drafter, frame: u32) -> Result<(), NoMemory>
+pub fn push_epilogue(code: &mut CodeBuilder, frame: u32) -> Result<(), NoMemory>
     ensures { OnOk result (code.new ≡ code.old ++ words (epilogue frame)) }
 {
     code.push(Rv::Lw(X::RA, X::SP, 0))?;
@@ -153,7 +153,7 @@ pub fn push_epilogue(code: &mut Drafter, frame: u32) -> Result<(), NoMemory>
 }
 
 /// Appends what extends a narrow word in a register by zeros.
-pub fn push_zero_extend(code: &mut Drafter, w: Width, r: X) -> Result<(), NoMemory>
+pub fn push_zero_extend(code: &mut CodeBuilder, w: Width, r: X) -> Result<(), NoMemory>
     requires { r < 32 }
     ensures { OnOk result (code.new ≡ code.old ++ words (zero_extend w r)) }
 {
@@ -166,7 +166,7 @@ pub fn push_zero_extend(code: &mut Drafter, w: Width, r: X) -> Result<(), NoMemo
 }
 
 /// Appends what extends a narrow word in a register by its sign.
-pub fn push_sign_extend(code: &mut Drafter, w: Width, r: X) -> Result<(), NoMemory>
+pub fn push_sign_extend(code: &mut CodeBuilder, w: Width, r: X) -> Result<(), NoMemory>
     requires { r < 32 }
     ensures { OnOk result (code.new ≡ code.old ++ words (sign_extend w r)) }
 {
@@ -179,7 +179,7 @@ pub fn push_sign_extend(code: &mut Drafter, w: Width, r: X) -> Result<(), NoMemo
 }
 
 /// Appends a shift to the left and one back, which copies the sign.
-fn push_shifts(code: &mut Drafter, distance: i32, r: X) -> Result<(), NoMemory>
+fn push_shifts(code: &mut CodeBuilder, distance: i32, r: X) -> Result<(), NoMemory>
     requires register { r < 32 }
     requires low { pos 0 ≤ℤ distance }
     requires high { distance <ℤ pos 32 }

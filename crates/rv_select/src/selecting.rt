@@ -2,19 +2,19 @@ ghost use Rattle.std.specs.Prelude.{◌≡◌, ◌<◌, ◌≤◌, ◌+◌, ◌*
 ghost use Rattle.std.specs.List.{flat_map};
 ghost use Rattle.ir_core.specs.WellFormed.{IsWellFormed};
 ghost use Rattle.rv_isa.specs.Words.{IsSigned, IsEven};
-ghost use Rattle.rv_select.specs.Drafts.{IsDraft, IsItem, item_at, items_from};
+ghost use Rattle.rv_select.specs.Pending.{IsPending, IsItem, item_at, items_from};
 ghost use Rattle.rv_select.specs.Lowered.{instr, block, blocks_from, prologue, keep_parameters, HasFewArguments};
 ghost use Rattle.rv_select.specs.Incoming.{HasIncoming};
-ghost use Rattle.rv_select.specs.Heads.{HasFewIn, heads_from, place_in, IsTooLong};
+ghost use Rattle.rv_select.specs.Heads.{HasFewIn, heads_from, offset_in, IsTooLong};
 ghost use Rattle.rv_select.specs.Code.{code, code_with, code_bytes, IsRefused};
 
+use crate::builder::CodeBuilder;
 use crate::code::Code;
-use crate::drafter::Drafter;
 use crate::ends::{push_before_end, push_end, push_head};
 use crate::faults::{Cause, NoSize, SelectFault};
 use crate::incoming::Incoming;
 use crate::instrs::{push_instr, push_store};
-use crate::item::{Draft, Item};
+use crate::item::{Item, PendingItem};
 use crate::pieces::push_open_frame;
 use frame_layout::{Frame, FrameFault, layout};
 use ir_core::{FlatBlock, FlatBody, FlatInstr};
@@ -22,17 +22,20 @@ use oi_base::{BlockId, NoMemory, RegId};
 use rv_isa::{Rv, X};
 use std::alloc::Global;
 
-/// How many items the largest code has: 1,000,000 bytes.
-const MOST_ITEMS: usize = 250_000;
+/// The size of the largest code, in bytes.
+pub const LARGEST_CODE: usize = 1_000_000;
+
+/// How many items the largest code has, each of four bytes.
+const MOST_ITEMS: usize = LARGEST_CODE / 4;
 
 /// The code of a body, by the table of the lowering.
 ///
 /// It answers `Frame` where `layout` refuses the body's frame, and else `Code` where the code would have more than
-/// 1,000,000 bytes.
+/// `LARGEST_CODE` bytes.
 pub fn select(alloc: Global, b: &FlatBody) -> Result<Code, SelectFault>
     requires { IsWellFormed b.now }
     ensures code { IfOk result (λ c. c ≡ code b.now) }
-    ensures fits { IfOk result (λ c. code_bytes b.now ≤ 1000000) }
+    ensures fits { IfOk result (λ c. code_bytes b.now ≤ LARGEST_CODE) }
     ensures refused { IfErr result (λ e. IsRefused b.now e) }
 {
     match layout(alloc, b) {
@@ -50,26 +53,26 @@ pub fn with_frame(alloc: Global, b: &FlatBody, f: &Frame) -> Result<Code, Select
     requires params { b.now.params ≤ 8 }
     requires arguments { All HasFewIn b.now.blocks }
     ensures code { IfOk result (λ c. c ≡ code_with f.now b.now) }
-    ensures fits { IfOk result (λ c. 4 * length (code_with f.now b.now) ≤ 1000000) }
+    ensures fits { IfOk result (λ c. 4 * length (code_with f.now b.now) ≤ LARGEST_CODE) }
     ensures refused { IfErr result (λ e. IsTooLong (4 * length (code_with f.now b.now)) e) }
 {
-    let mut drafts = Drafter::new(alloc);
-    push_prologue(&mut drafts, f, b.params)?;
+    let mut pending = CodeBuilder::new(alloc);
+    push_prologue(&mut pending, f, b.params)?;
     let blocks = b.blocks.as_slice();
     let incoming = Incoming::of_blocks(alloc, blocks)?;
-    let heads = push_blocks(alloc, &mut drafts, f, &incoming, blocks)?;
-    if drafts.len() > MOST_ITEMS {
+    let heads = push_blocks(alloc, &mut pending, f, &incoming, blocks)?;
+    if pending.len() > MOST_ITEMS {
         return Err(SelectFault::NoSize(NoSize {
             cause: Cause::Code,
-            number: (drafts.len() as u64).saturating_mul(4),
+            number: (pending.len() as u64).saturating_mul(4),
         }));
     }
-    let items = items(alloc, &heads, drafts.as_slice())?;
+    let items = items(alloc, &heads, pending.as_slice())?;
     Ok(Code::of(items))
 }
 
 /// Appends what opens the frame and keeps the parameters.
-fn push_prologue(code: &mut Drafter, f: &Frame, params: u32) -> Result<(), NoMemory>
+fn push_prologue(code: &mut CodeBuilder, f: &Frame, params: u32) -> Result<(), NoMemory>
     requires { params ≤ 8 }
     ensures { OnOk result (code.new ≡ code.old ++ prologue f.now params) }
 {
@@ -77,7 +80,7 @@ fn push_prologue(code: &mut Drafter, f: &Frame, params: u32) -> Result<(), NoMem
     push_parameters(code, f, params)
 }
 
-fn push_parameters(code: &mut Drafter, f: &Frame, params: u32) -> Result<(), NoMemory>
+fn push_parameters(code: &mut CodeBuilder, f: &Frame, params: u32) -> Result<(), NoMemory>
     requires { params ≤ 8 }
     ensures { OnOk result (code.new ≡ code.old ++ keep_parameters f.now params) }
 {
@@ -90,7 +93,7 @@ fn push_parameters(code: &mut Drafter, f: &Frame, params: u32) -> Result<(), NoM
 /// Appends all blocks, and answers at which item each begins.
 fn push_blocks(
     alloc: Global,
-    code: &mut Drafter,
+    code: &mut CodeBuilder,
     f: &Frame,
     incoming: &Incoming,
     blocks: &[FlatBlock],
@@ -110,7 +113,7 @@ fn push_blocks(
 
 fn push_block(
     alloc: Global,
-    code: &mut Drafter,
+    code: &mut CodeBuilder,
     f: &Frame,
     incoming: &Incoming,
     blocks: &[FlatBlock],
@@ -127,7 +130,7 @@ fn push_block(
     push_end(code, f, n, &b.end)
 }
 
-fn push_instrs(code: &mut Drafter, f: &Frame, instrs: &[FlatInstr]) -> Result<(), NoMemory>
+fn push_instrs(code: &mut CodeBuilder, f: &Frame, instrs: &[FlatInstr]) -> Result<(), NoMemory>
     requires { All HasFewArguments instrs.now }
     ensures { OnOk result (code.new ≡ code.old ++ flat_map (instr f.now) instrs.now) }
 {
@@ -149,8 +152,8 @@ fn head(heads: &[usize], end: usize, to: BlockId) -> usize
 
 /// The distance in bytes from one item to another.
 fn distance(to: usize, at: usize) -> i32
-    requires to { to ≤ 250000 }
-    requires at { at ≤ 250000 }
+    requires to { to ≤ MOST_ITEMS }
+    requires at { at ≤ MOST_ITEMS }
     ensures value { result ≡ pos (4 * to) -ℤ pos (4 * at) }
     ensures range { IsSigned 20 result }
     ensures even { IsEven result }
@@ -158,32 +161,32 @@ fn distance(to: usize, at: usize) -> i32
     (4 * to) as i32 - (4 * at) as i32
 }
 
-/// The item of a draft.
-fn item(heads: &[usize], end: usize, at: usize, draft: Draft) -> Item
-    requires draft { IsDraft draft }
-    requires end { end ≤ 250000 }
-    requires at { at ≤ 250000 }
+/// The item that a pending one becomes.
+fn item(heads: &[usize], end: usize, at: usize, pending: PendingItem) -> Item
+    requires pending { IsPending pending }
+    requires end { end ≤ MOST_ITEMS }
+    requires at { at ≤ MOST_ITEMS }
     requires heads { All (λ h. h ≤ end) heads.now }
-    ensures value { result ≡ item_at (place_in heads.now end) (4 * at) draft }
+    ensures value { result ≡ item_at (offset_in heads.now end) (4 * at) pending }
     ensures item { IsItem result }
 {
-    match draft.to {
+    match pending.to {
         Some(to) => Item::Word(Rv::Jal(X::ZERO, distance(head(heads, end, to), at))),
-        None => draft.item,
+        None => pending.item,
     }
 }
 
-/// The items of drafts, with the distances of their jumps.
-fn items(alloc: Global, heads: &[usize], drafts: &[Draft]) -> Result<Vec<Item>, NoMemory>
-    requires few { length drafts.now ≤ 250000 }
-    requires drafts { All IsDraft drafts.now }
-    requires heads { All (λ h. h ≤ length drafts.now) heads.now }
-    ensures value { IfOk result (λ items. items.items ≡ items_from (place_in heads.now (length drafts.now)) 0 drafts.now) }
+/// The items that these pending ones become, with the distances of their jumps.
+fn items(alloc: Global, heads: &[usize], pending: &[PendingItem]) -> Result<Vec<Item>, NoMemory>
+    requires few { length pending.now ≤ MOST_ITEMS }
+    requires pending { All IsPending pending.now }
+    requires heads { All (λ h. h ≤ length pending.now) heads.now }
+    ensures value { IfOk result (λ items. items.items ≡ items_from (offset_in heads.now (length pending.now)) 0 pending.now) }
     ensures items { IfOk result (λ items. All IsItem items.items) }
 {
     let mut items = Vec::new(alloc);
-    for (at, draft) in drafts.iter().enumerate() {
-        items.push(item(heads, drafts.len(), at, *draft))?;
+    for (at, one) in pending.iter().enumerate() {
+        items.push(item(heads, pending.len(), at, *one))?;
     }
     Ok(items)
 }

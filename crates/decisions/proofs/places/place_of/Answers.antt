@@ -1,7 +1,7 @@
 use Rattle.std.proofs.Common.{rules}
 use Rattle.std.proofs.lemmas.List.Sorted.{answers_always}
 use Rattle.oi_base.specs.declared.ids.SiteId.{SiteId}
-use Rattle.decisions.proofs.Searched.{searched}
+use Rattle.decisions.proofs.SearchLaws.{searched}
 use Rattle.decisions.proofs.places.place_of.Goals as goal
 
 -- the closure gives a site's number

@@ -1,4 +1,4 @@
-use Rattle.decisions.proofs.Printed.{next_line, all_lines}
+use Rattle.decisions.proofs.PrintedText.{next_line, all_lines}
 use Rattle.decisions.proofs.printing.lines.Goals as goal
 
 pub loop-at-preserved : goal.loop-at-preserved

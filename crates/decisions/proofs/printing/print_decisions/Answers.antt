@@ -2,8 +2,8 @@ use Rattle.std.proofs.Common.{List, subst}
 use Rattle.std.proofs.lemmas.Result.{IfOk-weaker}
 use Rattle.oi_base.specs.declared.ids.SiteId.{SiteId}
 use Rattle.oi_base.specs.Ascending.{IsAscending}
-use Rattle.decisions.proofs.InForm.{text_in_form}
-use Rattle.decisions.proofs.Printed.{zip_of_parts}
+use Rattle.decisions.proofs.TextForm.{text_in_form}
+use Rattle.decisions.proofs.PrintedText.{zip_of_parts}
 use Rattle.decisions.proofs.printing.print_decisions.Goals as goal
 
 pub returns-clause-text : goal.returns-clause-text

@@ -1,5 +1,5 @@
 use Rattle.std.proofs.Common.{arith}
-use Rattle.decisions.proofs.Split.{end_is}
+use Rattle.decisions.proofs.LineSplits.{end_is}
 use Rattle.decisions.proofs.reading.line_end.Goals as goal
 
 pub returns-then-at-bytes-clause-end : goal.returns-then-at-bytes-clause-end

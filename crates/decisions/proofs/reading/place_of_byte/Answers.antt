@@ -1,6 +1,6 @@
 use Rattle.std.proofs.Common.{ℕ, sym, ◌∙◌}
 use Rattle.std.specs.Prelude.{◌==◌}
-use Rattle.decisions.proofs.Split.{position_some, position_none}
+use Rattle.decisions.proofs.LineSplits.{position_some, position_none}
 use Rattle.decisions.proofs.reading.place_of_byte.Goals as goal
 
 pub returns-in-Some-clause-place : goal.returns-in-Some-clause-place

@@ -5,10 +5,10 @@ use Rattle.std.proofs.lemmas.Bool.Decides.{nat_tests}
 use Rattle.std.proofs.lemmas.Result.{IfOk-weaker, MatchResult-weaker}
 use Rattle.oi_base.specs.declared.ids.SiteId.{SiteId}
 use Rattle.decisions.specs.declared.faults.DecisionFault.TheVariants.{Missing}
-use Rattle.decisions.proofs.Split.{end_above}
-use Rattle.decisions.proofs.Loop.{step, stops_at, ends_missing, ends_sites, ends_text}
-use Rattle.decisions.proofs.InForm.{no_text}
-use Rattle.decisions.proofs.OneMap.{one_map}
+use Rattle.decisions.proofs.LineSplits.{end_above}
+use Rattle.decisions.proofs.LineLoop.{step, stops_at, ends_missing, ends_sites, ends_text}
+use Rattle.decisions.proofs.TextForm.{no_text}
+use Rattle.decisions.proofs.Uniqueness.{one_map}
 use Rattle.decisions.proofs.reading.read_decisions.Goals as goal
 
 pub returns-in_err-take_line-clause-fault : goal.returns-in_err-take_line-clause-fault

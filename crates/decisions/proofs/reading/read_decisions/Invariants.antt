@@ -1,7 +1,7 @@
 use Rattle.std.proofs.Common.{◌≤◌, ◌+◌, List, length}
 use Rattle.oi_base.specs.declared.ids.SiteId.{SiteId}
 use Rattle.decisions.specs.declared.maps.Label.{Label}
-use Rattle.decisions.proofs.Loop.{ReadsOn}
+use Rattle.decisions.proofs.LineLoop.{ReadsOn}
 use Rattle.decisions.proofs.reading.read_decisions.Given as goal
 
 abbrev pub invariant-lines : goal.invariant-lines

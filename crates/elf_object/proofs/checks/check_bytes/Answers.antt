@@ -1,6 +1,6 @@
 use Rattle.std.proofs.Common.{arith}
 use Rattle.std.proofs.lemmas.Result.{err_from_is_err_and}
-use Rattle.elf_object.proofs.Checking.{bytes-go_on, bytes-stop, bytes-end}
+use Rattle.elf_object.proofs.CheckLaws.{bytes-go_on, bytes-stop, bytes-end}
 use Rattle.elf_object.proofs.checks.check_bytes.Goals as goal
 
 pub returns-in_err-check_field : goal.returns-in_err-check_field

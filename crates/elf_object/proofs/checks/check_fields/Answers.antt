@@ -1,7 +1,7 @@
 use Rattle.std.proofs.Common.{arith}
 use Rattle.std.proofs.lemmas.Result.{err_from_is_err_and}
 use Rattle.elf_object.specs.declared.elf32.Field.TheVariants.{Byte}
-use Rattle.elf_object.proofs.Checking.{fields-go_on, fields-stop, fields-end, sizes-drop}
+use Rattle.elf_object.proofs.CheckLaws.{fields-go_on, fields-stop, fields-end, sizes-drop}
 use Rattle.elf_object.proofs.checks.check_fields.Goals as goal
 
 pub check_field-requires-clause-within : goal.check_field-requires-clause-within

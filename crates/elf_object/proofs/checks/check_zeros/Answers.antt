@@ -1,5 +1,5 @@
 use Rattle.std.proofs.lemmas.Result.{err_from_is_err_and}
-use Rattle.elf_object.proofs.Checking.{zeros-go_on, zeros-stop, zeros-end}
+use Rattle.elf_object.proofs.CheckLaws.{zeros-go_on, zeros-stop, zeros-end}
 use Rattle.elf_object.proofs.checks.check_zeros.Goals as goal
 
 pub returns-in_err-check_field : goal.returns-in_err-check_field

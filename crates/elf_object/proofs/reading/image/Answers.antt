@@ -1,6 +1,6 @@
 use Rattle.std.proofs.Common.{arith}
 use Rattle.elf_object.specs.Checks.{image}
-use Rattle.elf_object.proofs.FoundLaws.{is_found}
+use Rattle.elf_object.proofs.FoundImage.{is_found}
 use Rattle.elf_object.proofs.ReadLaws.{all_laid_out, loaded_within}
 use Rattle.elf_object.proofs.reading.image.Goals as goal
 

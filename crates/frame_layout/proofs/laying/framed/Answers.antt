@@ -16,6 +16,6 @@ next_multiple_of-bytes-requires-clause-fits c =
 pub new-requires : goal.new-requires
 new-requires c =
     let ends = c.end.ensures in
-    let below = c.if-bytes-gt-LARGEST.false in
+    let below = c.if-bytes-gt-LARGEST_FRAME.false in
     let lower = c.next_multiple_of-bytes.ensures.lower_bound in
     subst (λ hs. All IsLow hs) (sym c.in_ok-homes.ensures) (low_table c.args.regs c.args.parts.now (omega arith))

@@ -1,3 +1,4 @@
+use Rattle.frame_layout.specs.declared.laying.TheConstants.{LARGEST_FRAME}
 use Rattle.std.proofs.Common.{◌≡◌, ◌≤◌, ℕ, All, List, length, sym, ap, ◌∙◌, subst}
 use Rattle.std.proofs.lemmas.Result.{IfOk-weaker, IfErr-weaker}
 use Rattle.ir_core.specs.declared.flat.FlatBody.{FlatBody}
@@ -46,8 +47,8 @@ returns-clause-frame c =
 
 pub returns-clause-fits : goal.returns-clause-fits
 returns-clause-fits c =
-    IfOk-weaker c.framed.result (λ f. size c.deref.result.now ≤ 65536) (λ f. frame c.args.b.now ≤ 65536)
-    (λ f h. subst (λ (n : ℕ). n ≤ 65536) (sized c.args.b.now c.deref.result.now (c.deref.ensures.value ∙ c.in_ok-parts.ensures)) h) c.framed.ensures.fits
+    IfOk-weaker c.framed.result (λ f. size c.deref.result.now ≤ LARGEST_FRAME) (λ f. frame c.args.b.now ≤ LARGEST_FRAME)
+    (λ f h. subst (λ (n : ℕ). n ≤ LARGEST_FRAME) (sized c.args.b.now c.deref.result.now (c.deref.ensures.value ∙ c.in_ok-parts.ensures)) h) c.framed.ensures.fits
 
 pub returns-clause-bytes : goal.returns-clause-bytes
 returns-clause-bytes c =

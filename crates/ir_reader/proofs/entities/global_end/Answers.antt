@@ -6,7 +6,7 @@ use Rattle.ir_grammar.specs.Tokens.{stated, sign}
 use Rattle.ir_grammar.specs.Entities.{one_global_end, global_end}
 use Rattle.ir_phrases.proofs.Many.{round_fails, rounds_end}
 use Rattle.ir_reader.proofs.RoundLaws.{one_more_end}
-use Rattle.ir_reader.proofs.Loops.{round_less, round_next}
+use Rattle.ir_bodies.proofs.Loops.{round_less, round_next}
 use Rattle.ir_reader.proofs.entities.global_end.Goals as goal
 
 pub returns-in_err-align : goal.returns-in_err-align

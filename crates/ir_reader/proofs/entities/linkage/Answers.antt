@@ -5,7 +5,7 @@ use Rattle.ir_grammar.specs.Tokens.{words_of}
 use Rattle.ir_grammar.specs.Entities.{global_words, one_linkage, linkage}
 use Rattle.ir_phrases.proofs.Many.{round_fails, rounds_end}
 use Rattle.ir_reader.proofs.RoundLaws.{one_more_word}
-use Rattle.ir_reader.proofs.Loops.{round_less, round_next}
+use Rattle.ir_bodies.proofs.Loops.{round_less, round_next}
 use Rattle.ir_reader.proofs.entities.linkage.Goals as goal
 
 pub returns-in_err-internal : goal.returns-in_err-internal

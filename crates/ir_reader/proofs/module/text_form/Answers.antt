@@ -5,7 +5,7 @@ use Rattle.ir_grammar.specs.Tokens.{stated}
 use Rattle.ir_grammar.specs.Entities.{next_set, next_entity, text_end, text_form}
 use Rattle.ir_phrases.proofs.Many.{gives_as, round_fails, rounds_end}
 use Rattle.ir_reader.proofs.RoundLaws.{one_more_entity}
-use Rattle.ir_reader.proofs.Loops.{round_less, round_next}
+use Rattle.ir_bodies.proofs.Loops.{round_less, round_next}
 use Rattle.ir_reader.proofs.module.text_form.Goals as goal
 
 pub returns-in_err-draft : goal.returns-in_err-draft

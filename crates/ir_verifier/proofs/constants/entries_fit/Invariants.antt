@@ -1,7 +1,7 @@
 use Rattle.std.proofs.Common.{◌≡◌, drop, map}
 use Rattle.std.specs.List.{list_all}
 use Rattle.ir_core.specs.declared.op.Pair.{Pair}
-use Rattle.ir_core.specs.Stands.{typed}
+use Rattle.ir_core.specs.Operands.{typed}
 use Rattle.ir_verifier.specs.Faults.{operand_fits}
 use Rattle.ir_verifier.proofs.constants.entries_fit.Given as goal
 

@@ -1,5 +1,5 @@
 use Rattle.std.proofs.Common.{not}
-use Rattle.ir_core.specs.Stands.{Step}
+use Rattle.ir_core.specs.Operands.{Step}
 use Rattle.module_rules.specs.Faults.{block_faults}
 use Rattle.ir_verifier.specs.Faults.{step_fits}
 use Rattle.module_rules.specs.First.{earlier}

@@ -1,7 +1,7 @@
 use Rattle.std.proofs.Common.{◌≡◌, ◌++◌, drop, not}
 use Rattle.std.specs.List.{flat_map}
 use Rattle.ir_core.specs.declared.func.Instr.{Instr}
-use Rattle.ir_core.specs.Stands.{Step}
+use Rattle.ir_core.specs.Operands.{Step}
 use Rattle.module_rules.specs.First.{earliest}
 use Rattle.module_rules.specs.Faults.{place_if, block_faults}
 use Rattle.ir_verifier.specs.Faults.{op_fits, end_fits, step_fits}

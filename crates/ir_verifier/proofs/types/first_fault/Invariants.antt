@@ -1,6 +1,6 @@
 use Rattle.std.proofs.Common.{◌≡◌, None, drop, not}
 use Rattle.std.specs.List.{flat_map}
-use Rattle.ir_core.specs.Stands.{Step}
+use Rattle.ir_core.specs.Operands.{Step}
 use Rattle.module_rules.specs.First.{earliest}
 use Rattle.module_rules.specs.Faults.{block_faults}
 use Rattle.ir_verifier.specs.TypeFaults.{step_agrees, type_faults}

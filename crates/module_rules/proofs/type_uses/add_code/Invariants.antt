@@ -1,7 +1,7 @@
 use Rattle.std.proofs.Common.{◌≡◌, drop}
 use Rattle.std.specs.List.{flat_map}
 use Rattle.ir_core.specs.declared.func.Instr.{Instr}
-use Rattle.ir_core.specs.Stands.{Does}
+use Rattle.ir_core.specs.Operands.{Does}
 use Rattle.ir_core.specs.ValidTypes.{step_uses}
 use Rattle.module_rules.specs.TypeFaults.{state, with_uses}
 use Rattle.module_rules.proofs.type_uses.add_code.Given as goal

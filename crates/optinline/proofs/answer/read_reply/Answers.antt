@@ -1,8 +1,8 @@
-use Rattle.std.proofs.Common.{subst}
+use Rattle.std.proofs.Common.{ℕ, ap, ◌∙◌, subst}
 use Rattle.std.proofs.lemmas.Result.{IfOk-weaker}
 use Rattle.ir_core.specs.FirstBroken.{IsFirstBroken}
 use Rattle.ir_verifier.specs.Verdict.{IfRule, IfUnassigned}
-use Rattle.optinline.specs.Answer.{answer_of, IsValidAnswer, IsReadAnswer, broken, valid}
+use Rattle.optinline.specs.Answer.{answer_of, refused, rule_word, IsValidAnswer, IsReadAnswer, broken, valid}
 use Rattle.optinline.specs.Words.{view}
 use Rattle.optinline.proofs.answer.read_reply.Goals as goal
 
@@ -16,4 +16,4 @@ returns-in_ok-rule_broken-in-Err-Rule-clause-answer c =
 
 pub returns-in_ok-rule_broken-in-Err-Unassigned-clause-answer : goal.returns-in_ok-rule_broken-in-Err-Unassigned-clause-answer
 returns-in_ok-rule_broken-in-Err-Unassigned-clause-answer c =
-    broken 18 c.in-Err-Unassigned.unassigned.place (subst (IfUnassigned (λ u. IsFirstBroken c.args.m 18 u.place)) c.in-Err-Unassigned.field-0-is c.in-Err-Unassigned.ensures.assignment) c.in_ok-rule_broken-in-Err-Unassigned.ensures.answer
+    broken 18 c.in-Err-Unassigned.unassigned.place (subst (IfUnassigned (λ u. IsFirstBroken c.args.m 18 u.place)) c.in-Err-Unassigned.field-0-is c.in-Err-Unassigned.ensures.assignment) (c.in_ok-rule_broken-in-Err-Unassigned.ensures.answer ∙ ap (λ (n : ℕ). refused c.in-Err-Unassigned.unassigned.place (rule_word n)) c.number.ensures)

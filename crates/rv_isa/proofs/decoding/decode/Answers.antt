@@ -1,6 +1,6 @@
 use Rattle.std.proofs.Common.{◌∙◌}
-use Rattle.rv_isa.proofs.Complete.{complete}
-use Rattle.rv_isa.proofs.Sound.{sound}
+use Rattle.rv_isa.proofs.Completeness.{complete}
+use Rattle.rv_isa.proofs.Soundness.{sound}
 use Rattle.rv_isa.proofs.decoding.decode.Goals as goal
 
 pub returns-clause-encodes : goal.returns-clause-encodes

@@ -2,7 +2,7 @@ use Rattle.std.proofs.Common.{◌≡◌, ◌+◌, ◌++◌, ℕ, nat_eq, List, [
 use Rattle.std.specs.HashSet.{contains}
 use Rattle.oi_base.specs.declared.ids.BlockId.{BlockId}
 use Rattle.rv_select.specs.Lowered.{numbers, is_in, distinct_from}
-use Rattle.rv_select.proofs.Distinct.{was_new, was_known, has_new, has_known, new_block, known_block}
+use Rattle.rv_select.proofs.DistinctBlocks.{was_new, was_known, has_new, has_known, new_block, known_block}
 use Rattle.rv_select.proofs.ends.distinct.Goals.{then-branch+in_ok-push, else-branch}
 use Rattle.rv_select.proofs.ends.distinct.Goals as goal
 

@@ -5,7 +5,7 @@ use Rattle.frame_layout.specs.Offsets.{shadow_of}
 use Rattle.rv_select.specs.Parts.{t0}
 use Rattle.rv_select.specs.Incoming.{value_for}
 use Rattle.rv_select.specs.Lowered.{give_phi, load_entry, store_to}
-use Rattle.rv_select.proofs.Giving.{one_more_code}
+use Rattle.rv_select.proofs.PhiMoves.{one_more_code}
 use Rattle.rv_select.proofs.ends.push_give_phis.Goals as goal
 
 pub loop-position-preserved : goal.loop-position-preserved

@@ -3,7 +3,7 @@ use Rattle.std.specs.Prelude.{pos}
 use Rattle.std.proofs.lemmas.Result.{on_ok_weaker}
 use Rattle.rv_isa.specs.declared.rv.Rv.TheVariants.{Lw, Jalr}
 use Rattle.rv_select.specs.Parts.{zero_register, ra, sp, frame_up}
-use Rattle.rv_select.proofs.Words.{then_words}
+use Rattle.rv_select.proofs.Instructions.{then_words}
 use Rattle.rv_select.proofs.pieces.push_epilogue.Goals as goal
 
 pub returns : goal.returns

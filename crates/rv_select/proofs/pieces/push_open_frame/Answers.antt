@@ -3,7 +3,7 @@ use Rattle.std.specs.Prelude.{pos}
 use Rattle.std.proofs.lemmas.Result.{on_ok_weaker}
 use Rattle.rv_isa.specs.declared.rv.Rv.TheVariants.{Sw}
 use Rattle.rv_select.specs.Parts.{ra, sp, frame_down}
-use Rattle.rv_select.proofs.Words.{then_words}
+use Rattle.rv_select.proofs.Instructions.{then_words}
 use Rattle.rv_select.proofs.pieces.push_open_frame.Goals as goal
 
 pub returns : goal.returns

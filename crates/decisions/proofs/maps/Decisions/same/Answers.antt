@@ -1,7 +1,7 @@
 use Rattle.std.proofs.Common.{◌≡◌}
 use Rattle.std.specs.Bool.{Decides}
 use Rattle.std.proofs.lemmas.Slice.Eq.{slice_eq-Decides}
-use Rattle.decisions.proofs.Equal.{site_decides, label_decides}
+use Rattle.decisions.proofs.Equality.{site_decides, label_decides}
 use Rattle.decisions.proofs.Lookups.{like, unlike}
 use Rattle.decisions.proofs.maps.Decisions.same.Goals as goal
 

@@ -2,8 +2,8 @@ use Rattle.std.proofs.Common.{ℕ, Some, get_or, sym, ap, ◌∙◌}
 use Rattle.std.specs.Prelude.{is_none, Option}
 use Rattle.oi_base.specs.declared.ids.SiteId.{SiteId}
 use Rattle.decisions.specs.declared.maps.Label.{Label}
-use Rattle.decisions.proofs.Split.{position_some, position_none, position_lt}
-use Rattle.decisions.proofs.Undecided.{found, not_found, all_decided}
+use Rattle.decisions.proofs.LineSplits.{position_some, position_none, position_lt}
+use Rattle.decisions.proofs.UndecidedSites.{found, not_found, all_decided}
 use Rattle.decisions.proofs.maps.Partial.undecided.Goals as goal
 
 pub returns-in-Some-clause-first : goal.returns-in-Some-clause-first

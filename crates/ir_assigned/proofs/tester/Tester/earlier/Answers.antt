@@ -1,6 +1,6 @@
 use Rattle.std.proofs.Common.{sym, refl, ◌∙◌, subst, List, ℕ}
 use Rattle.std.specs.Prelude.{MatchOption}
-use Rattle.ir_assigned.specs.Ways.{MissesOn, Misses}
+use Rattle.ir_assigned.specs.BlockPaths.{MissesOn, Misses}
 use Rattle.ir_assigned.specs.Testing.{Newer}
 use Rattle.ir_assigned.proofs.tester.Tester.earlier.Goals as goal
 

@@ -3,25 +3,25 @@ use Rattle.std.specs.Prelude.{Some}
 use Rattle.std.proofs.lemmas.Result.{err_from_is_err_and}
 use Rattle.std.proofs.lemmas.Bool.Decides.{nat_tests}
 use Rattle.ir_grammar.specs.Forms.{token}
-use Rattle.ir_grammar.specs.Tokens.{sign, behind_comma, one_word}
+use Rattle.ir_grammar.specs.Tokens.{sign, after_comma, one_word}
 use Rattle.ir_grammar.specs.Values.{const_words, gep, address, integer, zero_init, bytes, last_const_of, typed_init, array_init, struct_init, init_at}
-use Rattle.ir_grammar.proofs.LawsOfTokens.{law_behind_comma}
+use Rattle.ir_grammar.proofs.LawsOfTokens.{law_after_comma}
 use Rattle.ir_grammar.proofs.LawsOfValues.{law_typed_init, law_init_at}
 use Rattle.ir_phrases.proofs.Many.{many_next, many_less, many_ends, many_fails, gives_as}
 use Rattle.ir_phrases.proofs.InitsRead.{at_address, at_gep, at_integer, at_zero, at_bytes, at_last, at_array, at_struct, at_word}
 use Rattle.ir_phrases.proofs.reader.Reader.+inits.Goals as goal
 
 pub more_inits-returns-in_err-next : goal.more_inits-returns-in_err-next
-more_inits-returns-in_err-next t c = let p = err_from_is_err_and c.from_residual.result c.from_residual.ensures.1 in rw (p.1, p.2) (many_fails (sign 44) (behind_comma (typed_init (init_at (Some 4294967295) c.args.levels) (Some 4294967295) c.args.levels)) c.loop-self.inits c.loop-self.self c.in_err-next.field-0.0 _ (sym c.is_sign.ensures ∙ c.loop-self-test.true) c.in_err-next.ensures c.loop-self.invariant)
+more_inits-returns-in_err-next t c = let p = err_from_is_err_and c.from_residual.result c.from_residual.ensures.1 in rw (p.1, p.2) (many_fails (sign 44) (after_comma (typed_init (init_at (Some 4294967295) c.args.levels) (Some 4294967295) c.args.levels)) c.loop-self.inits c.loop-self.self c.in_err-next.field-0.0 _ (sym c.is_sign.ensures ∙ c.loop-self-test.true) c.in_err-next.ensures c.loop-self.invariant)
 
 pub more_inits-loop-self-smaller : goal.more_inits-loop-self-smaller
-more_inits-loop-self-smaller t c = many_less {w = true} (behind_comma (typed_init (init_at (Some 4294967295) c.args.levels) (Some 4294967295) c.args.levels)) _ (law_behind_comma (law_typed_init (init_at (Some 4294967295) c.args.levels) (Some 4294967295) c.args.levels (law_init_at (Some 4294967295) c.args.levels))) refl c.in_ok-next.next c.loop-self.self c.next_init.new.self c.in_ok-next.ensures
+more_inits-loop-self-smaller t c = many_less {w = true} (after_comma (typed_init (init_at (Some 4294967295) c.args.levels) (Some 4294967295) c.args.levels)) _ (law_after_comma (law_typed_init (init_at (Some 4294967295) c.args.levels) (Some 4294967295) c.args.levels (law_init_at (Some 4294967295) c.args.levels))) refl c.in_ok-next.next c.loop-self.self c.next_init.new.self c.in_ok-next.ensures
 
 pub more_inits-loop-self-preserved : goal.more_inits-loop-self-preserved
-more_inits-loop-self-preserved t c = many_next {w = true} (sign 44) (behind_comma (typed_init (init_at (Some 4294967295) c.args.levels) (Some 4294967295) c.args.levels)) _ (law_behind_comma (law_typed_init (init_at (Some 4294967295) c.args.levels) (Some 4294967295) c.args.levels (law_init_at (Some 4294967295) c.args.levels))) refl c.loop-self.inits c.push.new.self c.in_ok-next.next c.loop-self.self c.next_init.new.self _ (sym c.is_sign.ensures ∙ c.loop-self-test.true) c.in_ok-next.ensures c.in_ok-push.ensures.ok c.loop-self.invariant
+more_inits-loop-self-preserved t c = many_next {w = true} (sign 44) (after_comma (typed_init (init_at (Some 4294967295) c.args.levels) (Some 4294967295) c.args.levels)) _ (law_after_comma (law_typed_init (init_at (Some 4294967295) c.args.levels) (Some 4294967295) c.args.levels (law_init_at (Some 4294967295) c.args.levels))) refl c.loop-self.inits c.push.new.self c.in_ok-next.next c.loop-self.self c.next_init.new.self _ (sym c.is_sign.ensures ∙ c.loop-self-test.true) c.in_ok-next.ensures c.in_ok-push.ensures.ok c.loop-self.invariant
 
 pub more_inits-returns : goal.more_inits-returns
-more_inits-returns t c = many_ends (sign 44) (behind_comma (typed_init (init_at (Some 4294967295) c.args.levels) (Some 4294967295) c.args.levels)) c.loop-self.inits c.loop-self.self _ (sym c.is_sign.ensures ∙ c.loop-self-test.false) c.loop-self.invariant
+more_inits-returns t c = many_ends (sign 44) (after_comma (typed_init (init_at (Some 4294967295) c.args.levels) (Some 4294967295) c.args.levels)) c.loop-self.inits c.loop-self.self _ (sym c.is_sign.ensures ∙ c.loop-self-test.false) c.loop-self.invariant
 
 pub init_at-returns-then-is_kind : goal.init_at-returns-then-is_kind
 init_at-returns-then-is_kind t c = gives_as c.address.result c.address.new.self (address.parse c.args.self.now) _ (at_address (Some 4294967295) c.args.levels c.args.self.now (sym c.is_kind.ensures ∙ c.if-is_kind.true)) c.address.ensures

@@ -3,25 +3,25 @@ use Rattle.std.specs.Prelude.{Some}
 use Rattle.std.proofs.lemmas.Result.{err_from_is_err_and}
 use Rattle.std.proofs.lemmas.Bool.Decides.{nat_tests}
 use Rattle.ir_grammar.specs.Forms.{token}
-use Rattle.ir_grammar.specs.Tokens.{sign, behind_comma, one_word}
+use Rattle.ir_grammar.specs.Tokens.{sign, after_comma, one_word}
 use Rattle.ir_grammar.specs.Types.{scalars, named, last_of, type_in, array, struct}
-use Rattle.ir_grammar.proofs.LawsOfTokens.{law_behind_comma}
+use Rattle.ir_grammar.proofs.LawsOfTokens.{law_after_comma}
 use Rattle.ir_grammar.proofs.LawsOfTypes.{law_type}
 use Rattle.ir_phrases.proofs.Many.{many_next, many_less, many_ends, many_fails, gives_as}
 use Rattle.ir_phrases.proofs.TypesRead.{at_name, at_zero, at_word, at_array, at_struct}
 use Rattle.ir_phrases.proofs.reader.Reader.+types.Goals as goal
 
 pub more_types-returns-in_err-next : goal.more_types-returns-in_err-next
-more_types-returns-in_err-next t c = let p = err_from_is_err_and c.from_residual.result c.from_residual.ensures.1 in rw (p.1, p.2) (many_fails (sign 44) (behind_comma (type_in true (Some 4294967295) c.args.levels)) c.loop-self.types c.loop-self.self c.in_err-next.field-0.0 _ (sym c.is_sign.ensures ∙ c.loop-self-test.true) c.in_err-next.ensures c.loop-self.invariant)
+more_types-returns-in_err-next t c = let p = err_from_is_err_and c.from_residual.result c.from_residual.ensures.1 in rw (p.1, p.2) (many_fails (sign 44) (after_comma (type_in true (Some 4294967295) c.args.levels)) c.loop-self.types c.loop-self.self c.in_err-next.field-0.0 _ (sym c.is_sign.ensures ∙ c.loop-self-test.true) c.in_err-next.ensures c.loop-self.invariant)
 
 pub more_types-loop-self-smaller : goal.more_types-loop-self-smaller
-more_types-loop-self-smaller t c = many_less {w = true} (behind_comma (type_in true (Some 4294967295) c.args.levels)) _ (law_behind_comma (law_type true (Some 4294967295) c.args.levels)) refl c.in_ok-next.next c.loop-self.self c.next_type.new.self c.in_ok-next.ensures
+more_types-loop-self-smaller t c = many_less {w = true} (after_comma (type_in true (Some 4294967295) c.args.levels)) _ (law_after_comma (law_type true (Some 4294967295) c.args.levels)) refl c.in_ok-next.next c.loop-self.self c.next_type.new.self c.in_ok-next.ensures
 
 pub more_types-loop-self-preserved : goal.more_types-loop-self-preserved
-more_types-loop-self-preserved t c = many_next {w = true} (sign 44) (behind_comma (type_in true (Some 4294967295) c.args.levels)) _ (law_behind_comma (law_type true (Some 4294967295) c.args.levels)) refl c.loop-self.types c.push.new.self c.in_ok-next.next c.loop-self.self c.next_type.new.self _ (sym c.is_sign.ensures ∙ c.loop-self-test.true) c.in_ok-next.ensures c.in_ok-push.ensures.ok c.loop-self.invariant
+more_types-loop-self-preserved t c = many_next {w = true} (sign 44) (after_comma (type_in true (Some 4294967295) c.args.levels)) _ (law_after_comma (law_type true (Some 4294967295) c.args.levels)) refl c.loop-self.types c.push.new.self c.in_ok-next.next c.loop-self.self c.next_type.new.self _ (sym c.is_sign.ensures ∙ c.loop-self-test.true) c.in_ok-next.ensures c.in_ok-push.ensures.ok c.loop-self.invariant
 
 pub more_types-returns : goal.more_types-returns
-more_types-returns t c = many_ends (sign 44) (behind_comma (type_in true (Some 4294967295) c.args.levels)) c.loop-self.types c.loop-self.self _ (sym c.is_sign.ensures ∙ c.loop-self-test.false) c.loop-self.invariant
+more_types-returns t c = many_ends (sign 44) (after_comma (type_in true (Some 4294967295) c.args.levels)) c.loop-self.types c.loop-self.self _ (sym c.is_sign.ensures ∙ c.loop-self-test.false) c.loop-self.invariant
 
 pub ty-returns-then-is_kind : goal.ty-returns-then-is_kind
 ty-returns-then-is_kind t c = gives_as c.named_type.result c.named_type.new.self (named.parse c.args.self.now) _ (at_name c.args.void (Some 4294967295) c.args.levels c.args.self.now (sym c.is_kind.ensures ∙ c.if-is_kind.true)) c.named_type.ensures

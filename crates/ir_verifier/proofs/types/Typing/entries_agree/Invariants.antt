@@ -1,7 +1,7 @@
 use Rattle.std.proofs.Common.{◌≡◌, drop, map}
 use Rattle.std.specs.List.{list_all}
 use Rattle.ir_core.specs.declared.op.Pair.{Pair}
-use Rattle.ir_core.specs.Stands.{typed}
+use Rattle.ir_core.specs.Operands.{typed}
 use Rattle.ir_verifier.specs.TypeFaults.{operand_agrees}
 use Rattle.ir_verifier.proofs.types.Typing.entries_agree.Given as goal
 

@@ -2,7 +2,7 @@ use Rattle.std.proofs.Common.{rules, ◌≡◌, ◌≢◌, ◌≤◌, ◌∙◌,
 use Rattle.std.specs.Fn.{iterate}
 use Rattle.rv_machine.specs.State.{Stands, turned}
 use Rattle.rv_machine.specs.declared.stop.Stop.TheVariants.{Running}
-use Rattle.rv_machine.proofs.Turning.{Counts, counts, one_more, stands_turned, stays_stopped}
+use Rattle.rv_machine.proofs.TurnLaws.{Counts, counts, one_more, stands_turned, stays_stopped}
 use Rattle.rv_machine.proofs.machine.Machine.run.Goals as goal
 
 pub returns-then-not-is_running-clause-turns : goal.returns-then-not-is_running-clause-turns

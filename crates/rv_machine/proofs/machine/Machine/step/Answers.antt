@@ -1,6 +1,6 @@
 use Rattle.std.proofs.Common.{rules, ◌≡◌, ◌≢◌}
 use Rattle.rv_machine.specs.declared.stop.Stop.TheVariants.{Running}
-use Rattle.rv_machine.proofs.Turning.{counts, stands_turned, stands_stopped}
+use Rattle.rv_machine.proofs.TurnLaws.{counts, stands_turned, stands_stopped}
 use Rattle.rv_machine.proofs.machine.Machine.step.Goals as goal
 
 pub returns-then-not-is_running-clause-turn : goal.returns-then-not-is_running-clause-turn

@@ -1,5 +1,5 @@
 use Rattle.std.proofs.Common.{sym, ◌∙◌}
-use Rattle.rv_machine.proofs.Turning.{turn_ok, turn_err}
+use Rattle.rv_machine.proofs.TurnLaws.{turn_ok, turn_err}
 use Rattle.rv_machine.proofs.machine.Machine.turn.Goals as goal
 
 pub returns-in-Ok-clause-turn : goal.returns-in-Ok-clause-turn

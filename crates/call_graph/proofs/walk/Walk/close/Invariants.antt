@@ -1,9 +1,0 @@
-use Rattle.std.proofs.Common.{length}
-use Rattle.call_graph.specs.Walk.{state, IsClosing}
-use Rattle.call_graph.proofs.walk.Walk.close.Given as goal
-
-abbrev pub invariant-loop-self : goal.invariant-loop-self
-invariant-loop-self l = IsClosing l.base (state l.initial.self) (state l.self)
-
-abbrev pub decreases-loop-self : goal.decreases-loop-self
-decreases-loop-self l = length l.self.stack.items

@@ -1,0 +1,4 @@
+pub mod RoundLaws
+pub mod Loops
+pub mod Heads
+pub mod Counted

@@ -1,0 +1,5 @@
+pub mod Walking
+pub mod Turning
+pub mod Walked
+pub mod Falling
+pub mod Sorted
