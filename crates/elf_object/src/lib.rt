@@ -17,6 +17,3 @@ pub use image::{Image, LARGEST_DATA, LARGEST_TABLES, LARGEST_TEXT, LEAST_TEXT};
 pub use reading::read_elf;
 pub use symbol::{SymKind, Symbol, Symbols};
 pub use writing::write_elf;
-
-#[cfg(test)]
-mod tests;

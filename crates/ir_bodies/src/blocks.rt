@@ -10,7 +10,7 @@ use crate::lines::{instr, is_line};
 use crate::terminators::{end_form, is_end};
 use ir_core::{Block, Blocks, Instr, Instrs, LocalId};
 use ir_grammar::{Kind, Lines, Progress};
-use ir_phrases::{ReadFault, Reader};
+use ir_phrases::{ReadFault, Reader, push};
 use oi_base::{NoMemory, Place};
 
 /// Instructions, after those that are there.
@@ -19,7 +19,7 @@ pub fn with_instr(code: Instrs, instr: Option<Instr>) -> Result<Instrs, NoMemory
 {
     let mut code = code;
     if let Some(instr) = instr {
-        code.push(instr)?;
+        push(&mut code, instr)?;
     }
     Ok(code)
 }
@@ -107,7 +107,7 @@ pub fn grown(blocks: Blocks, place: Place, lines: Lines) -> Result<Progress, NoM
             waits: Some(block),
         });
     }
-    done.push(block)?;
+    push(&mut done, block)?;
     Ok(Progress { done, waits: None })
 }
 

@@ -8,7 +8,7 @@ use crate::blocks::{block, is_block};
 use crate::void_returns::{after_void, goes_on_after_void};
 use ir_core::{Block, Blocks};
 use ir_grammar::Progress;
-use ir_phrases::{ReadFault, Reader};
+use ir_phrases::{ReadFault, Reader, push};
 use oi_base::NoMemory;
 
 /// Does one more block, or the value that this one waits for, stand next?
@@ -37,7 +37,7 @@ fn all_blocks(progress: Progress) -> Result<Blocks, NoMemory>
     let Progress { done, waits } = progress;
     let mut done = done;
     if let Some(block) = waits {
-        done.push(block)?;
+        push(&mut done, block)?;
     }
     Ok(done)
 }

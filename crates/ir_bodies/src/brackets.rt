@@ -1,4 +1,5 @@
 ghost use Rattle.std.specs.Prelude.{◌≡◌, ◌+◌, Some};
+ghost use Rattle.ir_core.specs.declared.limits.TheConstants.{MOST_PARAMS};
 ghost use Rattle.ir_grammar.specs.declared.which.Which.TheVariants as limits;
 ghost use Rattle.ir_grammar.specs.Forms.{choose};
 ghost use Rattle.ir_grammar.specs.Tokens.{is_past, over, stated};
@@ -9,10 +10,10 @@ ghost use Rattle.ir_phrases.specs.Gives.{Gives};
 
 use ir_core::{LocalId, MOST_PARAMS, Param, Params, TypedOperand, TypedOperands};
 use ir_grammar::{Barred, Kind, Which};
-use ir_phrases::{ReadFault, Reader};
+use ir_phrases::{ReadFault, Reader, push, push_short};
 
 fn next_argument(reader: &mut Reader<'_>, so_many: usize) -> Result<TypedOperand, ReadFault>
-    ensures { Gives result reader.new ((choose (is_past (Some 8) (so_many + 1)) (over limits.Params) (argument stated)).parse reader.old) }
+    ensures { Gives result reader.new ((choose (is_past (Some MOST_PARAMS) (so_many + 1)) (over limits.Params) (argument stated)).parse reader.old) }
 {
     if so_many >= MOST_PARAMS {
         return Err(reader.beyond(Which::Params));
@@ -30,7 +31,7 @@ fn one_more_argument(
     let mut arguments = arguments;
     reader.sign(b',')?;
     let next = next_argument(reader, arguments.len())?;
-    arguments.push(next)?;
+    push_short(&mut arguments, next)?;
     Ok(arguments)
 }
 
@@ -57,7 +58,7 @@ fn argument_list(reader: &mut Reader<'_>) -> Result<TypedOperands, ReadFault>
         return Ok(arguments);
     }
     let first = reader.argument()?;
-    arguments.push(first)?;
+    push_short(&mut arguments, first)?;
     more_arguments(reader, arguments)
 }
 
@@ -96,7 +97,7 @@ fn param(reader: &mut Reader<'_>) -> Result<Param, ReadFault>
 }
 
 fn next_param(reader: &mut Reader<'_>, so_many: usize) -> Result<Param, ReadFault>
-    ensures { Gives result reader.new ((choose (is_past (Some 8) (so_many + 1)) (over limits.Params) (param stated)).parse reader.old) }
+    ensures { Gives result reader.new ((choose (is_past (Some MOST_PARAMS) (so_many + 1)) (over limits.Params) (param stated)).parse reader.old) }
 {
     if so_many >= MOST_PARAMS {
         return Err(reader.beyond(Which::Params));
@@ -111,7 +112,7 @@ fn one_more_param(reader: &mut Reader<'_>, params: Params) -> Result<Params, Rea
     let mut params = params;
     reader.sign(b',')?;
     let next = next_param(reader, params.len())?;
-    params.push(next)?;
+    push(&mut params, next)?;
     Ok(params)
 }
 
@@ -135,7 +136,7 @@ fn param_list(reader: &mut Reader<'_>) -> Result<Params, ReadFault>
         return Ok(params);
     }
     let first = param(reader)?;
-    params.push(first)?;
+    push(&mut params, first)?;
     more_params(reader, params)
 }
 

@@ -4,13 +4,14 @@ ghost use Rattle.ir_grammar.specs.Forms.{act, token, choose};
 ghost use Rattle.ir_grammar.specs.Tokens.{expect, stated};
 ghost use Rattle.ir_grammar.specs.Operations.{tail_word, call_words, call_words_form, call_head, call_end, callee, callee_of, is_lifetime, named_call, result_of, called, lifetime, unnamed_call};
 ghost use Rattle.ir_phrases.specs.Gives.{Gives};
+ghost use Rattle.ir_bodies.specs.Endings.{call_ended};
 ghost use Rattle.ir_bodies.specs.Calls.{call_after_type, call_from_type};
 
 use crate::brackets::arguments;
 use crate::lines::Line;
 use ir_core::{IrType, LocalId, Op, SymId};
 use ir_grammar::{Barred, Kind};
-use ir_phrases::{ReadFault, Reader};
+use ir_phrases::{ReadFault, Reader, text};
 use oi_base::Text;
 
 fn is_tail(reader: &Reader<'_>) -> bool
@@ -64,6 +65,14 @@ pub fn call_end(reader: &mut Reader<'_>) -> Result<(), ReadFault>
     reader.notes()
 }
 
+/// Passes the end of a call after what was read, and gives it.
+fn call_ended<T: Drop>(reader: &mut Reader<'_>, read: T) -> Result<T, ReadFault>
+    ensures { Gives result reader.new ((call_ended read).parse reader.old) }
+{
+    call_end(reader)?;
+    Ok(read)
+}
+
 /// A GLOBAL that is no function for lifetimes.
 #[tactic(auto, unfolding(ir_grammar::specs::Operations::callee))]
 fn callee(reader: &mut Reader<'_>) -> Result<SymId, ReadFault>
@@ -82,7 +91,7 @@ fn callee_name(reader: &mut Reader<'_>) -> Result<Text, ReadFault>
     if is_lifetime(name) {
         return Err(reader.fault());
     }
-    let name = Text::from_slice(reader.alloc(), name)?;
+    let name = text(reader.alloc(), name)?;
     reader.pass()?;
     Ok(name)
 }
@@ -103,8 +112,7 @@ pub fn named_call(reader: &mut Reader<'_>) -> Result<Op, ReadFault>
     let ty = reader.value_type()?;
     let callee = callee(reader)?;
     let arguments = arguments(reader)?;
-    call_end(reader)?;
-    Ok(Op::Call(ty, callee, arguments))
+    call_ended(reader, Op::Call(ty, callee, arguments))
 }
 
 /// The register of a call's result without a name.
@@ -158,8 +166,7 @@ fn call_after_type(reader: &mut Reader<'_>, types: usize, ty: IrType) -> Result<
 {
     let name = reader.text(Kind::Global)?;
     let line = call_or_lifetime(reader, types, ty, name)?;
-    call_end(reader)?;
-    Ok(line)
+    call_ended(reader, line)
 }
 
 /// The rest of a call after its attributes.

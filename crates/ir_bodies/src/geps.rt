@@ -6,7 +6,7 @@ ghost use Rattle.ir_grammar.specs.Operations.{one_listed, items_and_notes, gep_o
 
 use ir_core::{Op, TypedOperands};
 use ir_grammar::Kind;
-use ir_phrases::{ReadFault, Reader};
+use ir_phrases::{ReadFault, Reader, push_short};
 
 /// `,` and an index or, after the last one, a note.
 fn next_operand(
@@ -26,7 +26,7 @@ fn next_operand(
         return Ok((true, indices));
     }
     let next = reader.typed()?;
-    indices.push(next)?;
+    push_short(&mut indices, next)?;
     Ok((false, indices))
 }
 

@@ -6,6 +6,7 @@ mod blocks;
 mod bodies;
 mod brackets;
 mod calls;
+mod endings;
 mod geps;
 mod lines;
 mod operations;

@@ -5,6 +5,7 @@ ghost use Rattle.ir_grammar.specs.Tokens.{look, words_of, one_word, skip, expect
 ghost use Rattle.ir_grammar.specs.Operations.{align_then_notes, note_then_notes, align_or_notes, align_and_notes, bin_words, bin_flag, bin, order_words, may_samesign, icmp, select, cast_words, cast_flag, cast, load, store, icmp_word, select_word, alloca_word, load_word, phi_word, other_words, other_op};
 
 use crate::allocas::alloca;
+use crate::endings::noted;
 use crate::phis::phi;
 use ir_core::{BinOp, CastOp, Cmp, Op};
 use ir_phrases::{ReadFault, Reader};
@@ -169,8 +170,7 @@ fn bin(reader: &mut Reader<'_>) -> Result<Op, ReadFault>
     let a = reader.value()?;
     reader.sign(b',')?;
     let b = reader.value()?;
-    reader.notes()?;
-    Ok(Op::Bin(op, ty, a, b))
+    noted(reader, Op::Bin(op, ty, a, b))
 }
 
 /// [ `samesign` ]
@@ -194,8 +194,7 @@ fn icmp(reader: &mut Reader<'_>) -> Result<Op, ReadFault>
     let a = reader.value()?;
     reader.sign(b',')?;
     let b = reader.value()?;
-    reader.notes()?;
-    Ok(Op::Icmp(order, ty, a, b))
+    noted(reader, Op::Icmp(order, ty, a, b))
 }
 
 #[tactic(auto, unfolding(ir_grammar::specs::Operations::select))]
@@ -208,8 +207,7 @@ fn select(reader: &mut Reader<'_>) -> Result<Op, ReadFault>
     let a = reader.typed()?;
     reader.sign(b',')?;
     let b = reader.typed()?;
-    reader.notes()?;
-    Ok(Op::Select(c, a, b))
+    noted(reader, Op::Select(c, a, b))
 }
 
 fn is_cast_flag(reader: &Reader<'_>) -> bool
@@ -246,8 +244,7 @@ fn cast(reader: &mut Reader<'_>) -> Result<Op, ReadFault>
     let a = reader.typed()?;
     reader.word(b"to")?;
     let ty = reader.type_form()?;
-    reader.notes()?;
-    Ok(Op::Cast(op, a, ty))
+    noted(reader, Op::Cast(op, a, ty))
 }
 
 #[tactic(auto, unfolding(ir_grammar::specs::Operations::load))]

@@ -5,7 +5,7 @@ ghost use Rattle.ir_grammar.specs.Operations.{one_listed, items_and_notes, pair,
 
 use ir_core::{Op, Pair, Pairs};
 use ir_grammar::Kind;
-use ir_phrases::{ReadFault, Reader};
+use ir_phrases::{ReadFault, Reader, push_short};
 
 /// `[` value `,` LOCAL `]`
 #[tactic(auto, unfolding(ir_grammar::specs::Operations::pair))]
@@ -36,7 +36,7 @@ fn next_pair(reader: &mut Reader<'_>, so_far: (bool, Pairs)) -> Result<(bool, Pa
         return Ok((true, pairs));
     }
     let next = pair(reader)?;
-    pairs.push(next)?;
+    push_short(&mut pairs, next)?;
     Ok((false, pairs))
 }
 
@@ -60,7 +60,7 @@ pub fn phi(reader: &mut Reader<'_>) -> Result<Op, ReadFault>
     let ty = reader.type_form()?;
     let first = pair(reader)?;
     let mut pairs = Pairs::new(reader.alloc());
-    pairs.push(first)?;
+    push_short(&mut pairs, first)?;
     let pairs = pairs_and_notes(reader, pairs)?;
     Ok(Op::Phi(ty, pairs))
 }

@@ -6,9 +6,10 @@ ghost use Rattle.ir_grammar.specs.Tokens.{stated, many};
 ghost use Rattle.ir_grammar.specs.Bodies.{label, label_word, void_word, after_void_word, void_end, value_end, ret_end, cond_end, label_end, br_end, switch_case, switch_end, unreachable_end, closed_end, end_form, end_set};
 ghost use Rattle.ir_phrases.specs.Gives.{Gives};
 
+use crate::endings::noted;
 use ir_core::{End, LocalId, SwitchCase, SwitchCases, TypedOperand};
 use ir_grammar::Kind;
-use ir_phrases::{ReadFault, Reader};
+use ir_phrases::{ReadFault, Reader, push};
 
 /// A terminator, and whether it is `ret void`, after which a value may stand.
 type Ended = (End, bool);
@@ -31,8 +32,7 @@ fn after_void_word(reader: &mut Reader<'_>) -> Result<Ended, ReadFault>
         return Ok((End::Ret(None), true));
     }
     reader.next_note()?;
-    reader.notes()?;
-    Ok((End::Ret(None), false))
+    noted(reader, (End::Ret(None), false))
 }
 
 /// `void`: with a note after it no value can come.
@@ -49,8 +49,7 @@ fn value_end(reader: &mut Reader<'_>) -> Result<Ended, ReadFault>
 {
     let ty = reader.value_type()?;
     let value = reader.value()?;
-    reader.notes()?;
-    Ok((End::Ret(Some(TypedOperand { ty, value })), false))
+    noted(reader, (End::Ret(Some(TypedOperand { ty, value })), false))
 }
 
 fn void_or_value(reader: &mut Reader<'_>) -> Result<Ended, ReadFault>
@@ -75,8 +74,7 @@ fn label_end(reader: &mut Reader<'_>) -> Result<End, ReadFault>
     ensures { Gives result reader.new (label_end.parse reader.old) }
 {
     let to = label(reader)?;
-    reader.notes()?;
-    Ok(End::Br(to))
+    noted(reader, End::Br(to))
 }
 
 /// type value `,` `label` LOCAL `,` `label` LOCAL
@@ -88,8 +86,7 @@ fn cond_end(reader: &mut Reader<'_>) -> Result<End, ReadFault>
     let yes = label(reader)?;
     reader.sign(b',')?;
     let no = label(reader)?;
-    reader.notes()?;
-    Ok(End::Cond(condition, yes, no))
+    noted(reader, End::Cond(condition, yes, no))
 }
 
 fn label_or_cond(reader: &mut Reader<'_>) -> Result<End, ReadFault>
@@ -126,7 +123,7 @@ fn switch_cases(reader: &mut Reader<'_>) -> Result<SwitchCases, ReadFault>
     let mut cases = SwitchCases::new(reader.alloc());
     while reader.is_type() {
         let next = switch_case(reader)?;
-        cases.push(next)?;
+        push(&mut cases, next)?;
     }
     Ok(cases)
 }
@@ -143,8 +140,7 @@ fn switch_end(reader: &mut Reader<'_>) -> Result<End, ReadFault>
     reader.sign(b'[')?;
     let cases = switch_cases(reader)?;
     reader.sign(b']')?;
-    reader.notes()?;
-    Ok(End::Switch(value, default, cases))
+    noted(reader, End::Switch(value, default, cases))
 }
 
 #[tactic(auto, unfolding(ir_grammar::specs::Bodies::unreachable_end))]
@@ -152,8 +148,7 @@ fn unreachable_end(reader: &mut Reader<'_>) -> Result<End, ReadFault>
     ensures { Gives result reader.new (unreachable_end.parse reader.old) }
 {
     reader.word(b"unreachable")?;
-    reader.notes()?;
-    Ok(End::Unreachable)
+    noted(reader, End::Unreachable)
 }
 
 /// A terminator, and whether it is `ret void` without a note.

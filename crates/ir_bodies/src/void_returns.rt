@@ -8,6 +8,7 @@ ghost use Rattle.ir_grammar.specs.Bodies.{settled, begun, labelled, local_begins
 ghost use Rattle.ir_phrases.specs.Gives.{Gives};
 
 use crate::blocks::{finish, grown, labelled, lines, with_instr};
+use crate::endings::noted;
 use crate::geps::gep_op_rest;
 use crate::lines::{instr_at, is_other_line, op, other_line};
 use crate::terminators::is_end;
@@ -16,7 +17,7 @@ use ir_core::{
     TypedOperand,
 };
 use ir_grammar::{Kind, Lines, Progress};
-use ir_phrases::{ReadFault, Reader};
+use ir_phrases::{ReadFault, Reader, push};
 use oi_base::{NoMemory, Place, Text};
 
 /// The blocks with one more, which ends in `ret void` and this value.
@@ -54,11 +55,12 @@ fn begun(
     ensures { Gives result reader.new ((begun stated blocks place (label, (register, op))).parse reader.old) }
 {
     let mut code = Instrs::new(reader.alloc());
-    code.push(Instr {
+    let first = Instr {
         place,
         result: Some(register),
         op,
-    })?;
+    };
+    push(&mut code, first)?;
     let lines = lines(reader, label, code)?;
     Ok(grown(blocks, place, lines)?)
 }
@@ -88,8 +90,8 @@ fn local_settles(
     ensures { Gives result reader.new ((local_settles blocks block name).parse reader.old) }
 {
     let value = reader.see_local(name)?;
-    reader.notes()?;
-    Ok(settled(blocks, block, Operand::Local(value))?)
+    let done = settled(blocks, block, Operand::Local(value))?;
+    noted(reader, done)
 }
 
 fn after_local(
@@ -131,8 +133,8 @@ fn gep_settles(reader: &mut Reader<'_>, blocks: Blocks, block: Block) -> Result<
     ensures { Gives result reader.new ((gep_settles stated blocks block).parse reader.old) }
 {
     let value = reader.gep_rest(MOST_LEVELS)?;
-    reader.notes()?;
-    Ok(settled(blocks, block, Operand::Const(value))?)
+    let done = settled(blocks, block, Operand::Const(value))?;
+    noted(reader, done)
 }
 
 fn after_gep(
@@ -187,8 +189,8 @@ fn value_after(reader: &mut Reader<'_>, blocks: Blocks, block: Block) -> Result<
     ensures { Gives result reader.new ((value_after blocks block).parse reader.old) }
 {
     let value = plain_value(reader)?;
-    reader.notes()?;
-    Ok(settled(blocks, block, Operand::Const(value))?)
+    let done = settled(blocks, block, Operand::Const(value))?;
+    noted(reader, done)
 }
 
 /// The lines of a block without a label, after its first instruction, which is no `getelementptr`.

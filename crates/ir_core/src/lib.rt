@@ -18,8 +18,6 @@ mod parts;
 mod rule;
 mod short;
 mod sizes;
-#[cfg(test)]
-mod tests;
 mod ty;
 mod verified;
 mod weigh;

@@ -11,8 +11,6 @@ mod places;
 mod scanning;
 mod strings;
 mod table;
-#[cfg(test)]
-mod tests;
 
 pub use fault::LexFault;
 pub use laws::{lexing_is_a_function, tokens_are_those_of_the_table};

@@ -1,4 +1,5 @@
 ghost use Rattle.std.specs.Prelude.{◌≡◌, Some, None};
+ghost use Rattle.ir_core.specs.declared.limits.TheConstants.{MOST_LENGTH};
 ghost use Rattle.std.specs.Option.{option_map};
 ghost use Rattle.ir_grammar.specs.declared.kinds.Kind.TheVariants as kinds;
 ghost use Rattle.ir_grammar.specs.Sets.{head_in, IsWord, kind_if, hash_kind, meta_kind};
@@ -9,12 +10,10 @@ use crate::ahead::Ahead;
 use crate::fault::ReadFault;
 use crate::reader::Reader;
 use crate::words::{are_digits, is_debug};
+use ir_core::MOST_LENGTH;
 use ir_grammar::{Kind, Which};
 use ir_lexer::Token;
 use oi_base::Text;
-
-/// The greatest length, count or alignment.
-const MOST_LENGTH: i128 = 4_294_967_295;
 
 impl<'a> Reader<'a> {
     pub fn is_sign(&self, sign: u8) -> bool
@@ -104,7 +103,7 @@ impl<'a> Reader<'a> {
 
     /// Takes a length, a count or an alignment.
     pub fn number(&mut self) -> Result<u32, ReadFault>
-        ensures { Gives result self.new ((number_form (Some 4294967295)).parse self.old) }
+        ensures { Gives result self.new ((number_form (Some MOST_LENGTH)).parse self.old) }
     {
         let found = match &self.ahead {
             Ahead::Token(spot) => match &spot.token {
@@ -113,7 +112,7 @@ impl<'a> Reader<'a> {
             },
             _ => return Err(self.fault()),
         };
-        if found < 0 || found > MOST_LENGTH {
+        if found < 0 || found > MOST_LENGTH as i128 {
             return Err(self.limit(Which::Length));
         }
         self.pass()?;

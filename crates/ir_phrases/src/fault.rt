@@ -1,10 +1,9 @@
 ghost use Rattle.std.specs.Prelude.{◌≡◌};
-ghost use Rattle.ir_phrases.specs.declared.fault.ReadFault.TheVariants.{NoMemory};
+ghost use Rattle.ir_phrases.specs.declared.fault.ReadFault.TheVariants as faults;
 
 use ir_grammar::Which;
 use ir_lexer::LexFault;
-use oi_base::Place;
-use std::alloc::{AllocError, AllocFailed};
+use oi_base::{NoMemory, Place};
 use thiserror::Error;
 
 /// Why a text is not read. The first fault of the text is given; at one place a lexical fault comes before a limit, and
@@ -25,26 +24,10 @@ pub enum ReadFault {
     NoMemory,
 }
 
-impl From<oi_base::NoMemory> for ReadFault {
-    ghost from_gives = { λ _ e. e ≡ NoMemory };
+impl From<NoMemory> for ReadFault {
+    ghost from_gives = { λ _ e. e ≡ faults.NoMemory };
 
-    fn from(_error: oi_base::NoMemory) -> ReadFault {
-        ReadFault::NoMemory
-    }
-}
-
-impl From<AllocError> for ReadFault {
-    ghost from_gives = { λ _ e. e ≡ NoMemory };
-
-    fn from(_error: AllocError) -> ReadFault {
-        ReadFault::NoMemory
-    }
-}
-
-impl<T: Drop> From<AllocFailed<T>> for ReadFault {
-    ghost from_gives = { λ _ e. e ≡ NoMemory };
-
-    fn from(_error: AllocFailed<T>) -> ReadFault {
+    fn from(_error: NoMemory) -> ReadFault {
         ReadFault::NoMemory
     }
 }

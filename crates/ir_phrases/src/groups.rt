@@ -6,6 +6,7 @@ ghost use Rattle.ir_phrases.specs.Gives.{Gives};
 
 use crate::ahead::Ahead;
 use crate::fault::ReadFault;
+use crate::making::push;
 use crate::reader::Reader;
 use ir_lexer::Token;
 use oi_base::{Items, NoMemory, Text};
@@ -106,7 +107,7 @@ impl<'a> Reader<'a> {
         ensures { Gives result self.new ((inside last).parse self.old) }
     {
         let mut signs = Items::new(self.alloc);
-        signs.push(last)?;
+        push(&mut signs, last)?;
         let mut noinline = false;
         while let Some(awaited) = signs.pop() {
             let seen = self.sees_noinline(noinline);

@@ -7,6 +7,7 @@ mod attributes;
 mod cursor;
 mod fault;
 mod groups;
+mod making;
 mod names;
 mod reader;
 mod table;
@@ -17,5 +18,6 @@ mod words;
 
 pub use attributes::no_marks;
 pub use fault::ReadFault;
+pub use making::{push, push_short, text};
 pub use reader::Reader;
 pub use table::Table;

@@ -1,4 +1,5 @@
 ghost use Rattle.std.specs.Prelude.{◌≡◌, true, Some};
+ghost use Rattle.ir_core.specs.declared.limits.TheConstants.{MOST_LENGTH};
 ghost use Rattle.ir_grammar.specs.Sets.{head_in};
 ghost use Rattle.ir_grammar.specs.Forms.{token};
 ghost use Rattle.ir_phrases.specs.Gives.{Gives, IsVerdict};
@@ -6,6 +7,7 @@ ghost use Rattle.ir_grammar.specs.Tokens.{look, words_of, one_word, sign as sign
 ghost use Rattle.ir_grammar.specs.Types.{value_types, scalars, named, last_of, brackets, type_set, array, struct, type_in, type_form, value_type};
 
 use crate::fault::ReadFault;
+use crate::making::{boxed, push};
 use crate::reader::Reader;
 use ir_core::{IrType, MOST_LEVELS, Types};
 use ir_grammar::{Kind, Which};
@@ -100,20 +102,20 @@ impl<'a> Reader<'a> {
     /// `[` INT `x` type `]`
     #[cycle(types)]
     fn array(&mut self, levels: u32) -> Result<IrType, ReadFault>
-        ensures { Gives result self.new ((array (Some 4294967295) (type_in true (Some 4294967295) levels)).parse self.old) }
+        ensures { Gives result self.new ((array (Some MOST_LENGTH) (type_in true (Some MOST_LENGTH) levels)).parse self.old) }
     {
         self.sign(b'[')?;
         let count = self.number()?;
         self.word(b"x")?;
         let element = self.ty(true, levels)?;
         self.sign(b']')?;
-        Ok(IrType::Array(count, Boxed::new(self.alloc, element)?))
+        Ok(IrType::Array(count, boxed(self.alloc, element)?))
     }
 
     /// `{` [ type { `,` type } ] `}`
     #[cycle(types)]
     fn structure(&mut self, levels: u32) -> Result<IrType, ReadFault>
-        ensures { Gives result self.new ((struct (type_in true (Some 4294967295) levels)).parse self.old) }
+        ensures { Gives result self.new ((struct (type_in true (Some MOST_LENGTH) levels)).parse self.old) }
     {
         self.sign(b'{')?;
         let fields = self.fields(levels)?;
@@ -124,26 +126,26 @@ impl<'a> Reader<'a> {
     /// [ type { `,` type } ]
     #[cycle(types)]
     fn fields(&mut self, levels: u32) -> Result<Types, ReadFault>
-        ensures { Gives result self.new ((listed (type_set true) (type_in true (Some 4294967295) levels)).parse self.old) }
+        ensures { Gives result self.new ((listed (type_set true) (type_in true (Some MOST_LENGTH) levels)).parse self.old) }
     {
         let mut fields = Items::new(self.alloc);
         if !self.is_type() {
             return Ok(fields);
         }
         let first = self.ty(true, levels)?;
-        fields.push(first)?;
+        push(&mut fields, first)?;
         self.more_types(fields, levels)
     }
 
     /// { `,` type }
     #[cycle(types)]
     fn more_types(&mut self, types: Types, levels: u32) -> Result<Types, ReadFault>
-        ensures { Gives result self.new ((many (sign_set 44) (after_comma (type_in true (Some 4294967295) levels)) types).parse self.old) }
+        ensures { Gives result self.new ((many (sign_set 44) (after_comma (type_in true (Some MOST_LENGTH) levels)) types).parse self.old) }
     {
         let mut types = types;
         while self.is_sign(b',') {
             let next = self.next_type(levels)?;
-            types.push(next)?;
+            push(&mut types, next)?;
         }
         Ok(types)
     }
@@ -151,7 +153,7 @@ impl<'a> Reader<'a> {
     /// `,` type
     #[cycle(types)]
     fn next_type(&mut self, levels: u32) -> Result<IrType, ReadFault>
-        ensures { Gives result self.new ((after_comma (type_in true (Some 4294967295) levels)).parse self.old) }
+        ensures { Gives result self.new ((after_comma (type_in true (Some MOST_LENGTH) levels)).parse self.old) }
     {
         self.sign(b',')?;
         self.ty(true, levels)
@@ -160,7 +162,7 @@ impl<'a> Reader<'a> {
     /// A type with at most so many levels; `void` may be one or not.
     #[cycle(types)]
     pub fn ty(&mut self, void: bool, levels: u32) -> Result<IrType, ReadFault>
-        ensures { Gives result self.new ((type_in void (Some 4294967295) levels).parse self.old) }
+        ensures { Gives result self.new ((type_in void (Some MOST_LENGTH) levels).parse self.old) }
     {
         if self.is_kind(Kind::Local) {
             return self.named_type();

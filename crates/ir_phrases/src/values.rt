@@ -1,4 +1,5 @@
 ghost use Rattle.std.specs.Prelude.{◌≡◌, true, Some, [], ◌∷◌};
+ghost use Rattle.ir_core.specs.declared.limits.TheConstants.{MOST_LENGTH};
 ghost use Rattle.ir_grammar.specs.Sets.{head_in, IsWord};
 ghost use Rattle.ir_grammar.specs.Forms.{token};
 ghost use Rattle.ir_phrases.specs.Gives.{Gives, IsVerdict};
@@ -7,6 +8,7 @@ ghost use Rattle.ir_grammar.specs.Types.{type_set};
 ghost use Rattle.ir_grammar.specs.Values.{const_words, gep_word, gep_flag, gep_flags, global, index, gep_rest, gep, address, integer, const_at, constant, local_value, value_set, value, typed, zero_init, bytes, last_const_of, typed_init, array_init, struct_init, init_at, init};
 
 use crate::fault::ReadFault;
+use crate::making::push;
 use crate::reader::Reader;
 use ir_core::{
     Const, Indices, MOST_LEVELS, Operand, SymId, TypedConst, TypedConsts, TypedCount, TypedOperand,
@@ -109,7 +111,7 @@ impl<'a> Reader<'a> {
 
     /// type INT
     fn index(&mut self, levels: u32) -> Result<TypedCount, ReadFault>
-        ensures { Gives result self.new ((index (Some 4294967295) levels).parse self.old) }
+        ensures { Gives result self.new ((index (Some MOST_LENGTH) levels).parse self.old) }
     {
         let ty = self.ty(true, levels)?;
         let count = self.int()?;
@@ -118,7 +120,7 @@ impl<'a> Reader<'a> {
 
     /// `,` type INT
     fn next_index(&mut self, levels: u32) -> Result<TypedCount, ReadFault>
-        ensures { Gives result self.new ((after_comma (index (Some 4294967295) levels)).parse self.old) }
+        ensures { Gives result self.new ((after_comma (index (Some MOST_LENGTH) levels)).parse self.old) }
     {
         self.sign(b',')?;
         self.index(levels)
@@ -126,12 +128,12 @@ impl<'a> Reader<'a> {
 
     /// { `,` type INT }
     fn indices(&mut self, levels: u32) -> Result<Indices, ReadFault>
-        ensures { Gives result self.new ((many (sign_set 44) (after_comma (index (Some 4294967295) levels)) []).parse self.old) }
+        ensures { Gives result self.new ((many (sign_set 44) (after_comma (index (Some MOST_LENGTH) levels)) []).parse self.old) }
     {
         let mut indices = Items::new(self.alloc);
         while self.is_sign(b',') {
             let next = self.next_index(levels)?;
-            indices.push(next)?;
+            push(&mut indices, next)?;
         }
         Ok(indices)
     }
@@ -139,7 +141,7 @@ impl<'a> Reader<'a> {
     /// `(` type `,` ptr GLOBAL { `,` type INT } `)`
     #[tactic(auto, unfolding(ir_grammar::specs::Values::gep_rest))]
     pub fn gep_rest(&mut self, levels: u32) -> Result<Const, ReadFault>
-        ensures { Gives result self.new ((gep_rest (Some 4294967295) levels).parse self.old) }
+        ensures { Gives result self.new ((gep_rest (Some MOST_LENGTH) levels).parse self.old) }
     {
         self.sign(b'(')?;
         let ty = self.ty(true, levels)?;
@@ -154,7 +156,7 @@ impl<'a> Reader<'a> {
     /// A constant `getelementptr`.
     #[tactic(auto, unfolding(ir_grammar::specs::Values::gep))]
     pub fn gep_const(&mut self, levels: u32) -> Result<Const, ReadFault>
-        ensures { Gives result self.new ((gep (Some 4294967295) levels).parse self.old) }
+        ensures { Gives result self.new ((gep (Some MOST_LENGTH) levels).parse self.old) }
     {
         self.word(b"getelementptr")?;
         self.gep_flags()?;
@@ -249,7 +251,7 @@ impl<'a> Reader<'a> {
     /// type init
     #[cycle(inits)]
     fn typed_init(&mut self, levels: u32) -> Result<TypedConst, ReadFault>
-        ensures { Gives result self.new ((typed_init (init_at (Some 4294967295) levels) (Some 4294967295) levels).parse self.old) }
+        ensures { Gives result self.new ((typed_init (init_at (Some MOST_LENGTH) levels) (Some MOST_LENGTH) levels).parse self.old) }
     {
         let ty = self.ty(true, levels)?;
         let value = self.init_at(levels)?;
@@ -259,7 +261,7 @@ impl<'a> Reader<'a> {
     /// `,` type init
     #[cycle(inits)]
     fn next_init(&mut self, levels: u32) -> Result<TypedConst, ReadFault>
-        ensures { Gives result self.new ((after_comma (typed_init (init_at (Some 4294967295) levels) (Some 4294967295) levels)).parse self.old) }
+        ensures { Gives result self.new ((after_comma (typed_init (init_at (Some MOST_LENGTH) levels) (Some MOST_LENGTH) levels)).parse self.old) }
     {
         self.sign(b',')?;
         self.typed_init(levels)
@@ -268,12 +270,12 @@ impl<'a> Reader<'a> {
     /// { `,` type init }
     #[cycle(inits)]
     fn more_inits(&mut self, inits: TypedConsts, levels: u32) -> Result<TypedConsts, ReadFault>
-        ensures { Gives result self.new ((many (sign_set 44) (after_comma (typed_init (init_at (Some 4294967295) levels) (Some 4294967295) levels)) inits).parse self.old) }
+        ensures { Gives result self.new ((many (sign_set 44) (after_comma (typed_init (init_at (Some MOST_LENGTH) levels) (Some MOST_LENGTH) levels)) inits).parse self.old) }
     {
         let mut inits = inits;
         while self.is_sign(b',') {
             let next = self.next_init(levels)?;
-            inits.push(next)?;
+            push(&mut inits, next)?;
         }
         Ok(inits)
     }
@@ -281,20 +283,20 @@ impl<'a> Reader<'a> {
     /// [ type init { `,` type init } ]
     #[cycle(inits)]
     fn inits(&mut self, levels: u32) -> Result<TypedConsts, ReadFault>
-        ensures { Gives result self.new ((listed (type_set true) (typed_init (init_at (Some 4294967295) levels) (Some 4294967295) levels)).parse self.old) }
+        ensures { Gives result self.new ((listed (type_set true) (typed_init (init_at (Some MOST_LENGTH) levels) (Some MOST_LENGTH) levels)).parse self.old) }
     {
         let mut inits = Items::new(self.alloc);
         if !self.is_type() {
             return Ok(inits);
         }
         let first = self.typed_init(levels)?;
-        inits.push(first)?;
+        push(&mut inits, first)?;
         self.more_inits(inits, levels)
     }
 
     #[cycle(inits)]
     fn array_init(&mut self, levels: u32) -> Result<Const, ReadFault>
-        ensures { Gives result self.new ((array_init (typed_init (init_at (Some 4294967295) levels) (Some 4294967295) levels)).parse self.old) }
+        ensures { Gives result self.new ((array_init (typed_init (init_at (Some MOST_LENGTH) levels) (Some MOST_LENGTH) levels)).parse self.old) }
     {
         self.sign(b'[')?;
         let items = self.inits(levels)?;
@@ -304,7 +306,7 @@ impl<'a> Reader<'a> {
 
     #[cycle(inits)]
     fn struct_init(&mut self, levels: u32) -> Result<Const, ReadFault>
-        ensures { Gives result self.new ((struct_init (typed_init (init_at (Some 4294967295) levels) (Some 4294967295) levels)).parse self.old) }
+        ensures { Gives result self.new ((struct_init (typed_init (init_at (Some MOST_LENGTH) levels) (Some MOST_LENGTH) levels)).parse self.old) }
     {
         self.sign(b'{')?;
         let items = self.inits(levels)?;
@@ -315,7 +317,7 @@ impl<'a> Reader<'a> {
     /// An initialiser with at most so many levels.
     #[cycle(inits)]
     fn init_at(&mut self, levels: u32) -> Result<Const, ReadFault>
-        ensures { Gives result self.new ((init_at (Some 4294967295) levels).parse self.old) }
+        ensures { Gives result self.new ((init_at (Some MOST_LENGTH) levels).parse self.old) }
     {
         if self.is_kind(Kind::Global) {
             return self.address();

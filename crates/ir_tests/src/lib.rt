@@ -1,6 +1,10 @@
-//! Tests of the reader, the printer and the verifier on texts of modules.
+//! Tests of types' layouts, and of the lexer, the reader, the printer and the verifier on texts.
 #![tactic(auto)]
 
+#[cfg(test)]
+mod layout_tests;
+#[cfg(test)]
+mod lexer_tests;
 #[cfg(test)]
 mod printer_tests;
 #[cfg(test)]

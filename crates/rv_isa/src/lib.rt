@@ -10,8 +10,6 @@ mod fields;
 mod laws;
 mod memory_map;
 mod rv;
-#[cfg(test)]
-mod tests;
 
 pub use decoding::decode;
 pub use encoding::{EBREAK_WORD, ECALL_WORD, encode};

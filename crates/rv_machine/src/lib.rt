@@ -14,8 +14,6 @@ mod memory;
 mod registers;
 mod stop;
 mod streams;
-#[cfg(test)]
-mod tests;
 
 pub use laws::a_bounded_run_is_a_run;
 pub use machine::Machine;

@@ -14,7 +14,7 @@ pub loop-reader-smaller : goal.loop-reader-smaller
 loop-reader-smaller c = many_less (switch_case stated) one_more_case.0 one_more_case.2 one_more_case.1 c.in_ok-next.next c.loop-reader.reader c.switch_case.new.reader c.in_ok-next.ensures
 
 pub loop-reader-preserved : goal.loop-reader-preserved
-loop-reader-preserved c = many_next (type_set true) (switch_case stated) one_more_case.0 one_more_case.2 one_more_case.1 c.loop-reader.cases c.push.new.self c.in_ok-next.next c.loop-reader.reader c.switch_case.new.reader _ (sym c.is_type.ensures ∙ c.loop-reader-test.true) c.in_ok-next.ensures c.in_ok-push.ensures.ok c.loop-reader.invariant
+loop-reader-preserved c = many_next (type_set true) (switch_case stated) one_more_case.0 one_more_case.2 one_more_case.1 c.loop-reader.cases c.push.new.items c.in_ok-next.next c.loop-reader.reader c.switch_case.new.reader _ (sym c.is_type.ensures ∙ c.loop-reader-test.true) c.in_ok-next.ensures c.in_ok-push.ensures c.loop-reader.invariant
 
 pub returns : goal.returns
 returns c = many_ends (type_set true) (switch_case stated) c.loop-reader.cases c.loop-reader.reader _ (sym c.is_type.ensures ∙ c.loop-reader-test.false) c.loop-reader.invariant

@@ -1,5 +1,6 @@
 use Rattle.std.proofs.Common.{◌≡◌, ◌+◌, ◌*◌, length}
 use Rattle.std.specs.Prelude.{Some}
+use Rattle.ir_core.specs.declared.limits.TheConstants.{MOST_LENGTH}
 use Rattle.ir_grammar.specs.Tokens.{many, sign, after_comma}
 use Rattle.ir_grammar.specs.Values.{typed_init, init_at}
 use Rattle.ir_phrases.proofs.reader.Reader.+inits.Given as goal
@@ -26,7 +27,7 @@ abbrev pub decreases-init_at : goal.decreases-init_at
 decreases-init_at l = 8 * l.levels + 2
 
 abbrev pub invariant-more_inits-loop-self : goal.invariant-more_inits-loop-self
-invariant-more_inits-loop-self l = (many (sign 44) (after_comma (typed_init (init_at (Some 4294967295) l.levels) (Some 4294967295) l.levels)) l.inits).parse l.self ≡ (many (sign 44) (after_comma (typed_init (init_at (Some 4294967295) l.levels) (Some 4294967295) l.levels)) l.initial.inits).parse l.initial.self
+invariant-more_inits-loop-self l = (many (sign 44) (after_comma (typed_init (init_at (Some MOST_LENGTH) l.levels) (Some MOST_LENGTH) l.levels)) l.inits).parse l.self ≡ (many (sign 44) (after_comma (typed_init (init_at (Some MOST_LENGTH) l.levels) (Some MOST_LENGTH) l.levels)) l.initial.inits).parse l.initial.self
 
 abbrev pub decreases-more_inits-loop-self : goal.decreases-more_inits-loop-self
 decreases-more_inits-loop-self l = length l.self.tokens

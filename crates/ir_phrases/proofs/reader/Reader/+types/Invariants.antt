@@ -1,5 +1,6 @@
 use Rattle.std.proofs.Common.{◌≡◌, ◌+◌, ◌*◌, length}
 use Rattle.std.specs.Prelude.{true, Some}
+use Rattle.ir_core.specs.declared.limits.TheConstants.{MOST_LENGTH}
 use Rattle.ir_grammar.specs.Tokens.{many, sign, after_comma}
 use Rattle.ir_grammar.specs.Types.{type_in}
 use Rattle.ir_phrases.proofs.reader.Reader.+types.Given as goal
@@ -23,7 +24,7 @@ abbrev pub decreases-ty : goal.decreases-ty
 decreases-ty l = 6 * l.levels + 2
 
 abbrev pub invariant-more_types-loop-self : goal.invariant-more_types-loop-self
-invariant-more_types-loop-self l = (many (sign 44) (after_comma (type_in true (Some 4294967295) l.levels)) l.types).parse l.self ≡ (many (sign 44) (after_comma (type_in true (Some 4294967295) l.levels)) l.initial.types).parse l.initial.self
+invariant-more_types-loop-self l = (many (sign 44) (after_comma (type_in true (Some MOST_LENGTH) l.levels)) l.types).parse l.self ≡ (many (sign 44) (after_comma (type_in true (Some MOST_LENGTH) l.levels)) l.initial.types).parse l.initial.self
 
 abbrev pub decreases-more_types-loop-self : goal.decreases-more_types-loop-self
 decreases-more_types-loop-self l = length l.self.tokens

@@ -1,6 +1,6 @@
 ghost use Rattle.std.specs.Prelude.{◌≡◌, ◌<◌};
 
-use crate::{Rv, X, decode, encode};
+use rv_isa::{Rv, X, decode, encode};
 
 fn x(number: u8) -> X
     requires { number < 32 }

@@ -1,4 +1,4 @@
-use crate::{
+use ir_core::{
     Case, Entry, FlatBlock, FlatBody, FlatEnd, FlatInstr, FlatOp, IrType, Module, NamedTypes, Phi,
     Short, TypeDef, TypeDefs, TypeName, align_of, field_offset, size_of, weight,
 };

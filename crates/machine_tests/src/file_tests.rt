@@ -1,4 +1,4 @@
-use super::*;
+use elf_object::{ElfFault, ElfField, Image, SymKind, Symbol, read_elf, write_elf};
 use oi_base::{Items, NoMemory, Text};
 use std::alloc::Global;
 use std::test::*;

@@ -1,6 +1,6 @@
 ghost use Rattle.std.specs.Prelude.{◌%◌, ◌≤◌, ◌≡◌, ◌<◌, ◌+◌, ◌^◌, length, IfOk};
 
-use crate::{Machine, Stop};
+use rv_machine::{Machine, Stop};
 use elf_object::Image;
 use oi_base::{Items, NoMemory, Text};
 use std::alloc::Global;

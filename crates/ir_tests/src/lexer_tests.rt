@@ -1,4 +1,4 @@
-use crate::{LexFault, Lexer, Token, tokens};
+use ir_lexer::{LexFault, Lexer, Token, tokens};
 use oi_base::Place;
 use std::alloc::{AllocError, Global};
 use std::fmt::Write;
