@@ -1,3 +1,4 @@
+mod AllByPosition
 mod CallLaws
 mod CaseLaws
 mod CaseWords

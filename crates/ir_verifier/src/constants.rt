@@ -1,17 +1,14 @@
-ghost use Rattle.std.specs.Prelude.{◌≡◌, not, None, map, pos};
-ghost use Rattle.oi_base.specs.Words.{modulus};
+ghost use Rattle.std.specs.Prelude.{◌≡◌, not, None};
 ghost use Rattle.std.specs.List.{list_all};
-ghost use Rattle.ir_core.specs.Operands.{Does, typed};
+ghost use Rattle.ir_core.specs.Operands.{op_operands};
 ghost use Rattle.ir_core.specs.ValidOps.{BreaksConstants};
 ghost use Rattle.module_rules.specs.First.{earliest, IsFound};
 ghost use Rattle.module_rules.specs.Faults.{block_faults, fits, fits_type, count_fits};
 ghost use Rattle.ir_verifier.specs.Faults.{const_fits, value_fits, operand_fits, op_count_fits, op_fits, end_fits, step_fits, constant_faults};
 
-use ir_core::{
-    Block, Const, End, Func, IrType, Op, Operand, Pair, SwitchCase, TypedCount, TypedOperand,
-};
+use ir_core::{Block, Const, End, Func, IrType, Op, Operand};
 use module_rules::{count_fits, counts_fit, earlier, fits_type};
-use oi_base::{Place, Width};
+use oi_base::Place;
 
 #[tactic(auto, using(crate::proofs::ConstantLaws::constants_found))]
 /// The first integer constant that does not fit its width, `true` or `false` that is no `i1`, or `null` that is no `ptr`.
@@ -49,67 +46,42 @@ fn in_block(before: Option<Place>, block: &Block) -> Option<Place>
 fn op_fits(op: &Op) -> bool
     ensures { result ≡ op_fits op.now }
 {
+    op_operands_fit(op) && op_count_fits(op)
+}
+
+fn op_count_fits(op: &Op) -> bool
+    ensures { result ≡ op_count_fits op.now }
+{
     match op {
-        Op::Bin(_, t, a, b) | Op::Icmp(_, t, a, b) => value_fits(t, a) && value_fits(t, b),
-        Op::Select(c, a, b) => operand_fits(c) && operand_fits(a) && operand_fits(b),
-        Op::Cast(_, a, _) | Op::Load(_, a, _) => operand_fits(a),
-        Op::Alloca(_, None, _) => true,
         Op::Alloca(_, Some(count), _) => count_fits(count),
-        Op::Store(a, p, _) => operand_fits(a) && operand_fits(p),
-        Op::Gep(_, a, indices) => operand_fits(a) && all_fit(indices.as_slice()),
-        Op::Phi(t, entries) => entries_fit(t, entries.as_slice()),
-        Op::Call(_, _, arguments) => all_fit(arguments.as_slice()),
+        _ => true,
     }
+}
+
+fn op_operands_fit(op: &Op) -> bool
+    ensures { result ≡ list_all operand_fits (op_operands op.now) }
+{
+    let mut at = 0;
+    while let Some(operand) = op.typed_operand(at) {
+        if !value_fits(operand.ty, operand.value) {
+            return false;
+        }
+        at += 1;
+    }
+    true
 }
 
 fn end_fits(end: &End) -> bool
     ensures { result ≡ end_fits end.now }
 {
-    match end {
-        End::Ret(None) | End::Br(_) | End::Unreachable => true,
-        End::Ret(Some(a)) => operand_fits(a),
-        End::Cond(c, _, _) => operand_fits(c),
-        End::Switch(a, _, cases) => operand_fits(a) && cases_fit(cases.as_slice()),
-    }
-}
-
-fn all_fit(operands: &[TypedOperand]) -> bool
-    ensures { result ≡ list_all operand_fits operands.now }
-{
-    for operand in operands {
-        if !operand_fits(operand) {
+    let mut at = 0;
+    while let Some(operand) = end.typed_operand(at) {
+        if !value_fits(operand.ty, operand.value) {
             return false;
         }
+        at += 1;
     }
     true
-}
-
-fn entries_fit(t: &IrType, entries: &[Pair]) -> bool
-    ensures { result ≡ list_all operand_fits (map (λ e. typed t.now e.value) entries.now) }
-{
-    for entry in entries {
-        if !value_fits(t, &entry.value) {
-            return false;
-        }
-    }
-    true
-}
-
-fn cases_fit(cases: &[SwitchCase]) -> bool
-    ensures { result ≡ list_all operand_fits (map (λ c. c.value) cases.now) }
-{
-    for case in cases {
-        if !operand_fits(&case.value) {
-            return false;
-        }
-    }
-    true
-}
-
-fn operand_fits(operand: &TypedOperand) -> bool
-    ensures { result ≡ operand_fits operand.now }
-{
-    value_fits(&operand.ty, &operand.value)
 }
 
 fn value_fits(t: &IrType, value: &Operand) -> bool

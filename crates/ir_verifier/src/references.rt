@@ -1,15 +1,16 @@
-ghost use Rattle.std.specs.Prelude.{◌≡◌, not, None, map, IfOk};
+ghost use Rattle.std.specs.Prelude.{◌≡◌, not, None, IfOk};
 ghost use Rattle.std.specs.List.{list_all};
 ghost use Rattle.ir_core.specs.declared.module.Module as modules;
 ghost use Rattle.ir_core.specs.Proper.{IsProperFunc};
-ghost use Rattle.ir_core.specs.Operands.{typed};
+ghost use Rattle.ir_core.specs.Operands.{op_operands, end_operands};
+ghost use Rattle.ir_core.specs.Parts.{op_labels, targets};
 ghost use Rattle.ir_core.specs.ValidFunc.{BreaksReferences};
 ghost use Rattle.module_rules.specs.First.{earliest, IsFound};
 ghost use Rattle.module_rules.specs.Faults.{block_faults, global_numbers};
 ghost use Rattle.ir_verifier.specs.Faults.{is_known, is_label, op_is_known, end_is_known, step_is_known, reference_faults};
 
 use crate::scope::Scope;
-use ir_core::{Block, End, Func, IrType, Op, Pair, SwitchCase, TypedOperand};
+use ir_core::{Block, End, Func, Op};
 use module_rules::{Numbers, earlier_if};
 use oi_base::{NoMemory, Place};
 use std::alloc::Global;
@@ -46,93 +47,63 @@ fn in_block(before: Option<Place>, scope: &Scope<'_>, block: &Block) -> Option<P
 fn op_is_known(scope: &Scope<'_>, op: &Op) -> bool
     ensures { result ≡ op_is_known scope.now op.now }
 {
-    match op {
-        Op::Bin(_, _, a, b) | Op::Icmp(_, _, a, b) => {
-            scope.is_known_value(a) && scope.is_known_value(b)
-        }
-        Op::Select(c, a, b) => scope.is_known(c) && scope.is_known(a) && scope.is_known(b),
-        Op::Cast(_, a, _) | Op::Load(_, a, _) => scope.is_known(a),
-        Op::Alloca(_, _, _) => true,
-        Op::Store(a, p, _) => scope.is_known(a) && scope.is_known(p),
-        Op::Gep(_, a, indices) => scope.is_known(a) && all_known(scope, indices.as_slice()),
-        Op::Phi(t, entries) => {
-            values_known(scope, t, entries.as_slice()) && blocks_known(scope, entries.as_slice())
-        }
-        Op::Call(_, _, arguments) => all_known(scope, arguments.as_slice()),
-    }
+    op_values_known(scope, op) && op_labels_known(scope, op)
 }
 
 fn end_is_known(scope: &Scope<'_>, end: &End) -> bool
     ensures { result ≡ end_is_known scope.now end.now }
 {
-    match end {
-        End::Ret(None) | End::Unreachable => true,
-        End::Ret(Some(a)) => scope.is_known(a),
-        End::Br(to) => scope.is_label(*to),
-        End::Cond(c, then, other) => {
-            scope.is_known(c) && scope.is_label(*then) && scope.is_label(*other)
-        }
-        End::Switch(a, other, cases) => {
-            scope.is_known(a)
-                && cases_known(scope, cases.as_slice())
-                && scope.is_label(*other)
-                && targets_known(scope, cases.as_slice())
-        }
-    }
+    end_values_known(scope, end) && successors_known(scope, end)
 }
 
-fn all_known(scope: &Scope<'_>, operands: &[TypedOperand]) -> bool
-    ensures { result ≡ list_all (is_known scope.now) operands.now }
+fn op_values_known(scope: &Scope<'_>, op: &Op) -> bool
+    ensures { result ≡ list_all (is_known scope.now) (op_operands op.now) }
 {
-    for operand in operands {
-        if !scope.is_known(operand) {
+    let mut at = 0;
+    while let Some(operand) = op.typed_operand(at) {
+        if !scope.is_known_value(operand.value) {
             return false;
         }
+        at += 1;
     }
     true
 }
 
-fn values_known(scope: &Scope<'_>, t: &IrType, entries: &[Pair]) -> bool
-    ensures { result ≡ list_all (is_known scope.now) (map (λ e. typed t.now e.value) entries.now) }
+fn op_labels_known(scope: &Scope<'_>, op: &Op) -> bool
+    ensures { result ≡ list_all (is_label scope.now) (op_labels op.now) }
 {
-    let _type = t;
-    for entry in entries {
-        if !scope.is_known_value(&entry.value) {
+    let mut at = 0;
+    while let Some(label) = op.label(at) {
+        if !scope.is_label(label) {
             return false;
         }
+        at += 1;
     }
     true
 }
 
-fn blocks_known(scope: &Scope<'_>, entries: &[Pair]) -> bool
-    ensures { result ≡ list_all (is_label scope.now) (map (λ e. e.from) entries.now) }
+fn end_values_known(scope: &Scope<'_>, end: &End) -> bool
+    ensures { result ≡ list_all (is_known scope.now) (end_operands end.now) }
 {
-    for entry in entries {
-        if !scope.is_label(entry.from) {
+    let mut at = 0;
+    while let Some(operand) = end.typed_operand(at) {
+        if !scope.is_known_value(operand.value) {
             return false;
         }
+        at += 1;
     }
     true
 }
 
-fn cases_known(scope: &Scope<'_>, cases: &[SwitchCase]) -> bool
-    ensures { result ≡ list_all (is_known scope.now) (map (λ c. c.value) cases.now) }
+fn successors_known(scope: &Scope<'_>, end: &End) -> bool
+    ensures { result ≡ list_all (is_label scope.now) (targets end.now) }
 {
-    for case in cases {
-        if !scope.is_known(&case.value) {
+    let mut at = 0;
+    while let Some(label) = end.successor(at) {
+        if !scope.is_label(label) {
             return false;
         }
-    }
-    true
-}
-
-fn targets_known(scope: &Scope<'_>, cases: &[SwitchCase]) -> bool
-    ensures { result ≡ list_all (is_label scope.now) (map (λ c. c.to) cases.now) }
-{
-    for case in cases {
-        if !scope.is_label(case.to) {
-            return false;
-        }
+        at += 1;
     }
     true
 }

@@ -1,8 +1,8 @@
 ghost use Rattle.std.specs.Prelude.{◌%◌, ◌≤◌, ◌≡◌, ◌<◌, ◌+◌, ◌^◌, length, IfOk};
 
-use rv_machine::{Machine, Stop};
 use elf_object::Image;
 use oi_base::{Items, NoMemory, Text};
+use rv_machine::{Machine, Stop};
 use std::alloc::Global;
 use std::test::*;
 

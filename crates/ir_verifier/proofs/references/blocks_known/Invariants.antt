@@ -1,9 +1,0 @@
-use Rattle.std.proofs.Common.{◌≡◌, drop, map}
-use Rattle.std.specs.List.{list_all}
-use Rattle.ir_core.specs.declared.op.Pair.{Pair}
-use Rattle.ir_verifier.specs.Faults.{is_label}
-use Rattle.ir_verifier.proofs.references.blocks_known.Given as goal
-
-abbrev pub invariant-loop-entry : goal.invariant-loop-entry
-invariant-loop-entry l =
-    list_all (is_label l.scope) (map (λ (e : Pair). e.from) (drop l.entry-index l.entries)) ≡ list_all (is_label l.scope) (map (λ (e : Pair). e.from) l.entries)
