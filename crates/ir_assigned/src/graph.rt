@@ -1,12 +1,11 @@
-ghost use Rattle.std.specs.Prelude.{◌≡◌, ◌<◌, ℕ, [], ◌∷◌, ◌++◌, length, map, OnOk, IfOk, Some, slice_get, Contains};
+ghost use Rattle.std.specs.Prelude.{◌≡◌, ◌<◌, ℕ, [], length, OnOk, IfOk, Some, slice_get, Contains};
 ghost use Rattle.ir_assigned.specs.Names.{AreLabels, LabelsDiffer};
 ghost use Rattle.ir_assigned.specs.Graph.{AreBefore, Joins, before_at};
 ghost use Rattle.ir_core.specs.Parts.{targets};
 ghost use Rattle.ir_core.specs.ValidPaths.{IsSuccessor};
-ghost use Rattle.ir_core.specs.declared.op.SwitchCase as case_of;
 
 use crate::table::get;
-use ir_core::{End, Func, LocalId, SwitchCase};
+use ir_core::{End, Func, LocalId};
 use oi_base::{Items, NoMemory};
 use std::alloc::Global;
 use std::marker::Model;
@@ -98,29 +97,12 @@ fn targets_of(alloc: Global, end: &End) -> Result<Vec<LocalId>, NoMemory>
     ensures { IfOk result (λ labels. labels.items ≡ targets end.now) }
 {
     let mut labels = Vec::new(alloc);
-    match end {
-        End::Ret(_) => {}
-        End::Br(to) => labels.push(*to)?,
-        End::Cond(_, yes, no) => {
-            labels.push(*yes)?;
-            labels.push(*no)?;
-        }
-        End::Switch(_, other, cases) => {
-            labels.push(*other)?;
-            push_case_targets(cases.as_slice(), &mut labels)?;
-        }
-        End::Unreachable => {}
+    let mut at = 0;
+    while let Some(label) = end.successor(at) {
+        labels.push(label)?;
+        at += 1;
     }
     Ok(labels)
-}
-
-fn push_case_targets(cases: &[SwitchCase], labels: &mut Vec<LocalId>) -> Result<(), NoMemory>
-    ensures { OnOk result (labels.new.items ≡ labels.old.items ++ map (λ (c : case_of.SwitchCase). c.to) cases.now) }
-{
-    for case in cases {
-        labels.push(case.to)?;
-    }
-    Ok(())
 }
 
 /// Puts block `a` before each block that has one of the labels.
