@@ -1,4 +1,4 @@
-ghost use Rattle.std.specs.Prelude.{◌≡◌, ◌<◌, ℕ, [], length, OnOk, IfOk, Some, slice_get, Contains};
+ghost use Rattle.std.specs.Prelude.{◌≡◌, ◌<◌, ℕ, [], ◌∷◌, ◌++◌, length, OnOk, IfOk, Some, slice_get, Contains};
 ghost use Rattle.ir_assigned.specs.Names.{AreLabels, LabelsDiffer};
 ghost use Rattle.ir_assigned.specs.Graph.{AreBefore, Joins, before_at};
 ghost use Rattle.ir_core.specs.Parts.{targets};
