@@ -5,6 +5,7 @@ use Rattle.std.specs.Bool.{Decides}
 use Rattle.std.proofs.lemmas.Bool.Decides.{nat_tests}
 use Rattle.std.proofs.lemmas.List.{take_all}
 use Rattle.std.proofs.lemmas.Option.{slice_get_within, get_or_from_slice_get}
+use Rattle.ir_core.specs.declared.limits.TheConstants.{MOST_DATA, MOST_NAME_BYTES}
 use Rattle.oi_base.specs.declared.ids.Place.{Place}
 use Rattle.ir_core.specs.declared.ty.TypeName.{TypeName}
 use Rattle.ir_core.specs.declared.ty.TypeDef.{TypeDef}
@@ -124,31 +125,31 @@ module _ (defs : List TypeDef) (globals : List GlobalVar) where
     where
       by_global : ((g : GlobalVar) × (slice_get globals n ≡ Some g)) → Found (AreDataPast defs (take n globals)) → Found (AreDataPast defs (take (suc n) globals))
       by_global (g, e) f =
-          let next = min (data_end defs (take (n + 1) globals)) 1048577 in
+          let next = min (data_end defs (take (n + 1) globals)) (MOST_DATA + 1) in
           let one_on : n + 1 ≡ suc n = omega arith in
           subst (λ (k : ℕ). Found (AreDataPast defs (take k globals))) one_on
-          (earliest f.0 (place_if (nat_lt 1048576 next) g.place), first_more defs globals n g (slice_get_within globals n g e) (sym (get_or_from_slice_get globals n g g e)) next f.0 refl f.1)
+          (earliest f.0 (place_if (nat_lt MOST_DATA next) g.place), first_more defs globals n g (slice_get_within globals n g e) (sym (get_or_from_slice_get globals n g g e)) next f.0 refl f.1)
 
   data_decided : Found (AreDataPast defs globals)
   data_decided = let f = data_so_far (length globals) (omega arith) in subst (λ (gs : List GlobalVar). Found (AreDataPast defs gs)) (take_all (length globals) globals (omega arith)) f
 
 module _ (m : Module) where
   abbrev is_past : Introduced → Bool
-  is_past a = nat_lt 67108864 (name_bytes m a.place)
+  is_past a = nat_lt MOST_NAME_BYTES (name_bytes m a.place)
 
   names_past : Found (HasTooManyNames m)
   names_past = (
     earliest None (places is_past (λ (a : Introduced). a.place) (named m)),
-    found_same (λ (p : Place). (a : Introduced) × Contains (named m) a × (a.place ≡ p) × (67108864 < name_bytes m a.place)) (HasTooManyNames m) (earliest None (places is_past (λ (a : Introduced). a.place) (named m)))
-        (found_at is_past (λ (a : Introduced). a.place) (λ (a : Introduced). 67108864 < name_bytes m a.place) (λ a e. past (name_bytes m a.place) e) (λ a lt. is_less (name_bytes m a.place) lt) (named m))
-        (λ p b. (b.0, b.1, b.2, subst (λ (q : Place). 67108864 < name_bytes m q) b.2 b.3))
-        (λ p b. (b.0, b.1, b.2, subst (λ (q : Place). 67108864 < name_bytes m q) (sym b.2) b.3)),
+    found_same (λ (p : Place). (a : Introduced) × Contains (named m) a × (a.place ≡ p) × (MOST_NAME_BYTES < name_bytes m a.place)) (HasTooManyNames m) (earliest None (places is_past (λ (a : Introduced). a.place) (named m)))
+        (found_at is_past (λ (a : Introduced). a.place) (λ (a : Introduced). MOST_NAME_BYTES < name_bytes m a.place) (λ a e. past (name_bytes m a.place) e) (λ a lt. is_less (name_bytes m a.place) lt) (named m))
+        (λ p b. (b.0, b.1, b.2, subst (λ (q : Place). MOST_NAME_BYTES < name_bytes m q) b.2 b.3))
+        (λ p b. (b.0, b.1, b.2, subst (λ (q : Place). MOST_NAME_BYTES < name_bytes m q) (sym b.2) b.3)),
   )
     where
-      past : (n : ℕ) → nat_lt 67108864 n ≡ true → 67108864 < n
+      past : (n : ℕ) → nat_lt MOST_NAME_BYTES n ≡ true → MOST_NAME_BYTES < n
       past n e = grind (arith, nat_tests)
 
-      is_less : (n : ℕ) → 67108864 < n → nat_lt 67108864 n ≡ true
+      is_less : (n : ℕ) → MOST_NAME_BYTES < n → nat_lt MOST_NAME_BYTES n ≡ true
       is_less n lt = grind (arith, nat_tests)
 
   totals_decided : Found (BreaksTotals m)

@@ -3,6 +3,7 @@ use Rattle.std.proofs.Common.{◌≡◌, ◌⊎◌, inl, inr, refl, sym, ap, ◌
 use Rattle.std.specs.List.{list_any}
 use Rattle.std.specs.Bool.{Decides}
 use Rattle.std.proofs.lemmas.Bool.Decides.{Decides-or, nat_tests}
+use Rattle.ir_core.specs.declared.limits.TheConstants.{LARGEST}
 use Rattle.oi_base.specs.declared.ids.Place.{Place}
 use Rattle.ir_core.specs.declared.ty.TypeDef.{TypeDef}
 use Rattle.ir_core.specs.declared.ty.IrType.{IrType}
@@ -53,7 +54,7 @@ step_of f i c =
 
 -- ---- tests that decide
 
-above_is : (n : ℕ) → Decides (nat_lt 16777216 n) (16777216 < n)
+above_is : (n : ℕ) → Decides (nat_lt LARGEST n) (LARGEST < n)
 above_is n = (λ e. grind (arith, nat_tests), λ h. grind (arith, nat_tests))
 
 module _ (defs : List TypeDef) where

@@ -1,5 +1,5 @@
 -- The graph of type names, and what a search for a name that holds itself knows.
-use Rattle.std.specs.Prelude.{◌≡◌, ◌⊎◌, ◌<◌, ℕ, zero, suc, Bool, true, List, [], ◌∷◌, ◌++◌, map, replicate, length, Option, Some, None, slice_get}
+use Rattle.std.specs.Prelude.{◌≡◌, ◌⊎◌, ◌<◌, ℕ, zero, suc, Bool, true, List, [], ◌++◌, map, replicate, length, Option, Some, None, slice_get}
 use Rattle.std.specs.List.{list_any}
 use Rattle.oi_base.specs.declared.ids.Place.{Place}
 use Rattle.ir_core.specs.declared.ty.TypeName.{TypeName}

@@ -1,6 +1,7 @@
 -- Where the rule of sizes is broken.
 use Rattle.std.specs.Prelude.{ℕ, ◌*◌, nat_lt, ℤ, pos, negsuc, Bool, false, not, ◌||◌, if◌then◌else◌, List, ◌∷◌, ◌++◌, map, Some}
 use Rattle.std.specs.List.{flat_map, list_any, list_all}
+use Rattle.ir_core.specs.declared.limits.TheConstants.{LARGEST}
 use Rattle.oi_base.specs.declared.ids.Place.{Place}
 use Rattle.ir_core.specs.declared.ty.TypeName.{TypeName}
 use Rattle.ir_core.specs.declared.ty.TypeDef.{TypeDef}
@@ -23,7 +24,7 @@ use Rattle.module_rules.specs.TypeFaults.{is_laid_name}
 -- ---- types
 
 abbrev pub is_above : List TypeDef → IrType → Bool
-is_above defs t = nat_lt 16777216 (size defs t)
+is_above defs t = nat_lt LARGEST (size defs t)
 
 -- the type or one that stands in it is too large; not so through names
 abbrev mutual
@@ -59,7 +60,7 @@ abbrev pub typed_const_sources : TypedConst → List IrType
 typed_const_sources c = const_sources c.value
 
 abbrev pub count_is_above : ℤ → ℕ → Bool
-count_is_above (pos k) size = nat_lt 16777216 (k * size)
+count_is_above (pos k) size = nat_lt LARGEST (k * size)
 count_is_above (negsuc k) size = false
 
 abbrev pub makes_too_much : List TypeDef → Op → Bool

@@ -1,5 +1,6 @@
 -- Where the data and the names are too large.
 use Rattle.std.specs.Prelude.{◌≡◌, ℕ, ◌+◌, ◌<◌, ◌≤◌, true, List, length, map, filter, take, sum_by, slice_get, slice_index_or, Some, Contains}
+use Rattle.ir_core.specs.declared.limits.TheConstants.{MOST_DATA}
 use Rattle.oi_base.specs.declared.ids.Place.{Place}
 use Rattle.ir_core.specs.declared.ty.TypeDef.{TypeDef}
 use Rattle.ir_core.specs.declared.module.SymId.{SymId}
@@ -13,7 +14,7 @@ use Rattle.module_rules.specs.declared.totals.Name.{Name}
 
 -- a global among these with which they are too large
 abbrev pub AreDataPast : List TypeDef → List GlobalVar → Place → Type 0
-AreDataPast defs globals p = (i : ℕ) × (g : GlobalVar) × (slice_get globals i ≡ Some g) × (g.place ≡ p) × (1048576 < data_end defs (take (i + 1) globals))
+AreDataPast defs globals p = (i : ℕ) × (g : GlobalVar) × (slice_get globals i ≡ Some g) × (g.place ≡ p) × (MOST_DATA < data_end defs (take (i + 1) globals))
 
 -- ---- names
 

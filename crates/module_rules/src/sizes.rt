@@ -1,4 +1,5 @@
-ghost use Rattle.std.specs.Prelude.{◌≡◌, ◌∷◌, [], None, ℕ, map, min, IfOk};
+ghost use Rattle.std.specs.Prelude.{◌≡◌, ◌+◌, ◌∷◌, [], None, ℕ, map, min, IfOk};
+ghost use Rattle.ir_core.specs.declared.limits.TheConstants.{LARGEST};
 ghost use Rattle.std.specs.List.{flat_map, list_any, list_all};
 ghost use Rattle.oi_base.specs.declared.ids.Place as places;
 ghost use Rattle.ir_core.specs.Parts.{names_in_type, values_of, op_values, end_values};
@@ -226,7 +227,7 @@ fn makes_too_much(m: &Module, op: &Op) -> bool
 
 /// Whether so many of a size, which may stand for a larger one, are too much.
 fn count_is_above(count: i128, size: u32) -> bool
-    ensures { (of : ℕ) → size ≡ min of 16777217 → result ≡ count_is_above count of }
+    ensures { (of : ℕ) → size ≡ min of (LARGEST + 1) → result ≡ count_is_above count of }
 {
     if count <= 0 || size == 0 {
         return false;

@@ -1,4 +1,5 @@
 ghost use Rattle.std.specs.Prelude.{◌≡◌, ◌≤◌, ◌+◌, ◌++◌, map, min, IfOk, OnOk};
+ghost use Rattle.ir_core.specs.declared.limits.TheConstants.{LARGEST, MOST_DATA};
 ghost use Rattle.std.specs.Int.{next_multiple_of};
 ghost use Rattle.std.specs.List.Sorted.{IsPermutation};
 ghost use Rattle.ir_core.specs.Parts.{listed};
@@ -57,8 +58,8 @@ fn first_past_data(m: &Module) -> Option<Place>
 
 /// Where the data end with one global more, or one byte after the most where that is further.
 fn end_with(m: &Module, end: u64, global: &GlobalVar) -> u64
-    requires { end ≤ 1048577 }
-    ensures { result ≡ min (next_multiple_of end (global_align m.now.types.defs global.now) + min (size m.now.types.defs global.now.ty) 16777217) 1048577 }
+    requires { end ≤ (MOST_DATA + 1) }
+    ensures { result ≡ min (next_multiple_of end (global_align m.now.types.defs global.now) + min (size m.now.types.defs global.now.ty) (LARGEST + 1)) (MOST_DATA + 1) }
 {
     let start = round_up(end, global_align(m, global));
     (start + u64::from(size_up_to(m, &global.ty))).min(DATA_END + 1)
@@ -66,7 +67,7 @@ fn end_with(m: &Module, end: u64, global: &GlobalVar) -> u64
 
 /// The next multiple of `align` that is not below `end`.
 fn round_up(end: u64, align: u32) -> u64
-    requires { end ≤ 1048577 }
+    requires { end ≤ (MOST_DATA + 1) }
     ensures multiple { result ≡ next_multiple_of end align }
     ensures bound { result ≤ 4296015873 }
 {
