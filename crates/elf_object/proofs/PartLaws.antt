@@ -40,7 +40,7 @@ pub both : (file : List ℕ) (at : ℕ) (x y : List ℕ) → HasPart file at x �
 both file at x y h k =
     has_part file at (x ++ y) (drop (at + length x + length y) file) (omega (arith, h.within)) (h.here ∙ ap (λ (r : List ℕ). x ++ r) k.here ∙ sym (append_assoc x y _))
 
--- a file is the part that it has from its front to its end
+-- a file is the part that it has from its start to its end
 pub is_whole : (file part : List ℕ) → HasPart file 0 part → length file ≡ length part → file ≡ part
 is_whole file part h same =
     let end : drop (0 + length part) file ≡ [] = drop_all (0 + length part) file (omega arith) in

@@ -13,11 +13,11 @@ use Rattle.ir_lexer.specs.Places.{next_place, place_after}
 use Rattle.ir_lexer.specs.Table.{Found, token_at}
 use Rattle.ir_lexer.specs.Lexing.{Unread, unread, skip, is_in_comment, is_skipped, gap_len, taken, next_token, is_end}
 use Rattle.ir_lexer.specs.Spellings.{Spells, continues}
-use Rattle.ir_lexer.proofs.Fronts.{neither}
+use Rattle.ir_lexer.proofs.Starts.{neither}
 use Rattle.ir_lexer.proofs.Spelled.{spelled}
 use Rattle.ir_lexer.proofs.ReadBack.{read_back}
 
--- what is left after a front and n bytes more
+-- what is left after a prefix and n bytes more
 skip_more : (front bs : List ℕ) (n : ℕ) (p : Place) → skip (length front + n) (unread (front ++ bs) p) ≡ skip n (unread bs (place_after p front))
 skip_more [] bs n p = rw zero-add refl
 skip_more (b ∷ front) bs n p =
@@ -28,7 +28,7 @@ skip_more (b ∷ front) bs n p =
 abbrev found_here : Unread → Result ((Token × Place) × Unread) LexFault
 found_here u = taken u (token_at u.place u.bytes)
 
--- a front that is all in the gap
+-- a prefix that is all in the gap
 passes : (front bs : List ℕ) (p : Place) → gap_len false (front ++ bs) ≡ length front + gap_len false bs → next_token (unread (front ++ bs) p) ≡ next_token (unread bs (place_after p front))
 unfolding next_token
 passes front bs p e = ap found_here (ap (λ (n : ℕ). skip n (unread (front ++ bs) p)) e ∙ skip_more front bs (gap_len false bs) p)

@@ -1,5 +1,5 @@
 pub mod After
-pub mod Fronts
+pub mod Starts
 pub mod Gaps
 pub mod Numbers
 pub mod Passed

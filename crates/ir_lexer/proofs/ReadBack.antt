@@ -16,7 +16,7 @@ use Rattle.ir_lexer.specs.Strings.{unescaped, string_up_to, string_at, is_name}
 use Rattle.ir_lexer.specs.Table.{Found, and_then, is_c, int_token, cstring_token, run_token, string_token, name_after, token_at}
 use Rattle.ir_lexer.specs.Lexing.{is_end}
 use Rattle.ir_lexer.specs.Spellings.{IsRun, Names, Spells, continues}
-use Rattle.ir_lexer.proofs.Fronts.{both, neither, begins_run, run_is}
+use Rattle.ir_lexer.proofs.Starts.{both, neither, begins_run, run_is}
 
 free_run : (after : List ℕ) → continues after ≡ false → begins_run after ≡ false
 free_run [] h = refl

@@ -1,7 +1,7 @@
 -- Every token but the end takes a byte or more, and the end stands only where no byte is left.
 use Rattle.std.proofs.Common.{◌≡◌, ℕ, ◌+◌, ◌<◌, Bool, true, false, ◌==◌, nat_lt, nat_le, ◌&&◌, List, ◌∷◌, length, drop, if◌then◌else◌, Option, Some, None, Result, Ok, Err, refl, arith}
 use Rattle.std.specs.Prelude.{position}
-use Rattle.ir_lexer.proofs.Fronts.{begins}
+use Rattle.ir_lexer.proofs.Starts.{begins}
 use Rattle.std.specs.Str.Parse.{signed_digits_value}
 use Rattle.oi_base.specs.declared.ids.Place.{Place}
 use Rattle.ir_lexer.specs.declared.fault.LexFault.{LexFault}

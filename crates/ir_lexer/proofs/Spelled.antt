@@ -15,7 +15,7 @@ use Rattle.ir_lexer.specs.Places.{next_place}
 use Rattle.ir_lexer.specs.Strings.{unescaped, string_up_to, string_at, is_name}
 use Rattle.ir_lexer.specs.Table.{Found, and_then, is_c, int_token, cstring_token, run_token, string_token, name_after, token_at}
 use Rattle.ir_lexer.specs.Spellings.{IsRun, Quotes, Names, Spells}
-use Rattle.ir_lexer.proofs.Fronts.{both, begins, all_run, run_front, run_within, front_more}
+use Rattle.ir_lexer.proofs.Starts.{both, begins, all_run, run_front, run_within, front_more}
 
 -- the bytes that a token takes are a form of it
 abbrev pub Good : List ℕ → Found → Type 0

@@ -53,7 +53,7 @@ stays v p w (inr h) = absurd (false≢true (sym h.0))
 pub end_stays : (u : Unread) (p : Place) (w : Unread) → next_token u ≡ Ok ((tokens.End, p), w) → (w ≡ record { bytes = []; place = p }) × (next_token w ≡ Ok ((tokens.End, p), w))
 end_stays u p w e = stays (skip (gap_len false u.bytes) u) p w (moved u ((tokens.End, p), w) e)
 
--- one token more at the front
+-- one token more at the start
 one_before : (u : Unread) (n : Read) → next_token u ≡ Ok n → is_end n.0.0 ≡ false → (r : Result (List Spot) LexFault) → Lexes n.1 r → (r' : Result (List Spot) LexFault) × Lexes u r'
 one_before u n e more (Ok ts) h =
     let s : Spot = record { token = n.0.0; place = n.0.1 } in

@@ -22,7 +22,7 @@ abbrev pub begins_with : ℕ → List ℕ → Bool
 begins_with b [] = false
 begins_with b (c ∷ cs) = c == b
 
--- the longest run at the front of a text
+-- the longest run at the start of a text
 abbrev pub run_of : List ℕ → List ℕ
 run_of bs = take_while is_run_byte bs
 

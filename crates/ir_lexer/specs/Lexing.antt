@@ -34,12 +34,12 @@ is_in_comment inside b = (inside || (b == 59)) && not (b == 10)
 abbrev pub is_skipped : Bool → ℕ → Bool
 is_skipped inside b = inside || ((b == 59) || is_separator b)
 
--- how many bytes at the front of a text are separators or in comments, where a comment is open at first or is not
+-- how many bytes at the start of a text are separators or in comments, where a comment is open at first or is not
 unfoldable pub gap_len : Bool → List ℕ → ℕ
 gap_len inside [] = 0
 gap_len inside (b ∷ bs) = if is_skipped inside b then 1 + gap_len (is_in_comment inside b) bs else 0
 
--- the token at the front, its place, and what is left after it
+-- the token at the start, its place, and what is left after it
 abbrev pub taken : Unread → Found → Result ((Token × Place) × Unread) LexFault
 taken u (Ok t) = Ok ((t.0, u.place), skip t.1 u)
 taken u (Err e) = Err e

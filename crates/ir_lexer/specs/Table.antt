@@ -1,4 +1,4 @@
--- The table of tokens: the token at the front of a text that begins with no separator and no comment, and how many
+-- The table of tokens: the token at the start of a text that begins with no separator and no comment, and how many
 -- bytes the token takes, or why there is none. `p` is the place of the text's first byte.
 use Rattle.std.specs.Prelude.{◌≡◌, ℕ, ◌+◌, ◌==◌, nat_lt, nat_le, Bool, false, ◌&&◌, List, [], ◌∷◌, length, drop, Result, Ok, Err, if◌then◌else◌}
 use Rattle.std.specs.Str.Parse.{signed_digits_value}
@@ -59,7 +59,7 @@ name_after p b bs =
     else (if nat_lt 0 (length (run_of bs)) then Ok (run_of bs, length (run_of bs) + 1)
     else Err (BadByte p b))
 
--- the token at the front, by its first byte
+-- the token at the start, by its first byte
 unfoldable pub token_at : Place → List ℕ → Found
 token_at p [] = Ok (End, 0)
 token_at p (b ∷ bs) =
