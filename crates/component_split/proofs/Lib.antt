@@ -1,0 +1,15 @@
+pub mod Lists
+pub mod Merge
+pub mod Chains
+pub mod Rooted
+pub mod FuncSearch
+pub mod Known
+pub mod Reached
+pub mod Counting
+pub mod Joining
+pub mod Sites
+pub mod Dealing
+pub mod Choosing
+pub mod Trees
+pub mod Grown
+pub mod ClosedSets

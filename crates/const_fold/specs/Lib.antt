@@ -1,0 +1,4 @@
+pub mod FactTables
+pub mod FoldConstants
+pub mod Operands
+pub mod Results

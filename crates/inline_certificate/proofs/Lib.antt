@@ -1,0 +1,14 @@
+pub mod FaultLines
+pub mod LinesStated
+pub mod MapReading
+pub mod NodeLines
+pub mod Numerals
+pub mod OneTree
+pub mod PrintedWords
+pub mod Runs
+pub mod TextLines
+pub mod TreeLaws
+pub mod TreeReading
+pub mod Walking
+pub mod WholeText
+pub mod WordLists

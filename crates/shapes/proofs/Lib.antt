@@ -1,0 +1,4 @@
+pub mod Weights
+pub mod Weighed
+pub mod Starts
+pub mod SameSites
