@@ -1,0 +1,17 @@
+pub mod BranchesFormed
+pub mod ByChanges
+pub mod Changing
+pub mod Counting
+pub mod DroppedFormed
+pub mod Edges
+pub mod Kept
+pub mod Listed
+pub mod Marking
+pub mod JoinedLists
+pub mod MergeFormed
+pub mod Namings
+pub mod Numbers
+pub mod OneMerge
+pub mod Reaching
+pub mod Walking
+pub mod Ways

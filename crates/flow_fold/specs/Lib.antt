@@ -1,0 +1,10 @@
+pub mod Blocks
+pub mod Changes
+pub mod DropUnreached
+pub mod FoldBranches
+pub mod MergeBlocks
+pub mod Merges
+pub mod Numbering
+pub mod Targets
+pub mod Walks
+pub mod Ways
