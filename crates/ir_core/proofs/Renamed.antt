@@ -1,5 +1,5 @@
 -- With other numbers for registers and blocks an instruction does the same.
-use Rattle.std.proofs.Common.{◌≡◌, ℕ, Bool, true, false, if◌then◌else◌, nat_eq, List, [], ◌∷◌, map, Option, Some, None, refl, ap, ◌∙◌}
+use Rattle.std.proofs.Common.{◌≡◌, ℕ, Bool, true, false, ◌&&◌, if◌then◌else◌, nat_eq, List, [], ◌∷◌, map, Option, Some, None, refl, ap, ◌∙◌}
 use Rattle.std.specs.Option.{option_map}
 use Rattle.oi_base.specs.declared.ids.RegId.{RegId}
 use Rattle.oi_base.specs.declared.ids.BlockId.{BlockId}
@@ -13,8 +13,8 @@ use Rattle.ir_core.specs.declared.flat.FlatInstr.TheVariants.{Bin, Icmp, Select,
 use Rattle.ir_core.specs.declared.flat.FlatEnd.{FlatEnd}
 use Rattle.ir_core.specs.declared.flat.FlatEnd.TheVariants.{Ret, Br, Cond, Switch, Unreachable}
 use Rattle.ir_core.specs.Memory.{Value, Memory, load, store}
-use Rattle.ir_core.specs.Rows.{Answer, Gives, NoGood, Mistyped, Read, Is, IsPoison, IsOther, as_word, bin, icmp, choose, cast_read, is_of}
-use Rattle.ir_core.specs.Flat.{Regs, Effect, Sets, Allocates, Stores, Puts, Takes, Enters, Goes, Returns, Stops, NoMeaning, NoValue, value_of, using, operand, word_in, answered, load_gives, store_of, Distance, Far, PoisonFar, NoDistance, further, read_option, distance, gep_gives, arguments, effect, case_for, end_effect}
+use Rattle.ir_core.specs.Rows.{Answer, Gives, NoGood, Mistyped, Read, Is, IsPoison, IsOther, as_word, bin, icmp, choose, cast_read, is_pointer, is_of}
+use Rattle.ir_core.specs.Flat.{Regs, Effect, Sets, Allocates, Stores, Puts, Takes, Enters, Goes, Returns, Stops, NoMeaning, NoValue, value_of, using, operand, word_in, answered, load_gives, store_gives, if_typed, Distance, Far, PoisonFar, NoDistance, further, read_option, distance, gep_gives, arguments, effect, case_for, end_effect}
 use Rattle.ir_core.specs.Plain.{Numbers, other_reg, other_block, other_operand, other_term, other_instr, other_case, other_end}
 
 abbrev pub other_effect : Numbers → Effect → Effect
@@ -49,10 +49,13 @@ module _ (n : Numbers) where
   load_other d None = refl
   load_other d (Some v) = refl
 
-  store_other : (good : Bool) (o : Option Memory) → store_of good o ≡ other_effect n (store_of good o)
-  store_other false o = refl
-  store_other true None = refl
-  store_other true (Some m) = refl
+  store_other : (o : Option Memory) → store_gives o ≡ other_effect n (store_gives o)
+  store_other None = refl
+  store_other (Some m) = refl
+
+  typed_other : (typed : Bool) (e e' : Effect) → e' ≡ other_effect n e → if_typed typed e' ≡ other_effect n (if_typed typed e)
+  typed_other true e e' h = h
+  typed_other false e e' h = refl
 
   gep_other : (d : RegId) (v : Value) (k : Distance) → gep_gives (other_reg n d) v k ≡ other_effect n (gep_gives d v k)
   gep_other d v (Far k) = answered_other d _
@@ -99,8 +102,8 @@ module _ (n : Numbers) where
     effect_other m (Cast d c from to a) = operand_other a _ _ (λ x. answered_other d (cast_read c from to (as_word (modulus from) x)))
     effect_other m (Copy d a) = operand_other a _ _ (λ x. refl)
     effect_other m (Alloca d size align) = refl
-    effect_other m (Load d s align a) = operand_other a _ _ (λ x. load_other d (load m s align x))
-    effect_other m (Store s align v a) = operand_other v _ _ (λ x. operand_other a _ _ (λ y. store_other (is_of s x) (store m s align x y)))
+    effect_other m (Load d s align a) = operand_other a _ _ (λ x. typed_other (is_pointer x) _ _ (load_other d (load m s align x)))
+    effect_other m (Store s align v a) = operand_other v _ _ (λ x. operand_other a _ _ (λ y. typed_other (is_of s x && is_pointer y) _ _ (store_other (store m s align x y))))
     effect_other m (Gep d a k ts) = operand_other a _ _ (λ x. ap (λ e. gep_gives (other_reg n d) x e) (distance_other k ts) ∙ gep_other d x (distance old k ts))
     effect_other m (Call d f args) = ap (λ vs. Enters (option_map (other_reg n) d) f.0 vs) (arguments_other args)
     effect_other m (Put d a) = operand_other a _ _ (λ x. word_other (as_word 4294967296 x) _ _ (λ c. refl))

@@ -13,7 +13,8 @@ use Rattle.ir_core.specs.Words.{Known, NoWord, NoMeaning, word_op, word_cast}
 use Rattle.ir_core.specs.Memory.{Bits, At, NullPointer, Poisoned, Unset, Octet, PartOf, loaded, load, fresh}
 use Rattle.ir_core.specs.Rows.{Gives, NoGood, bin, icmp, moved, scaled}
 use Rattle.oi_base.specs.Follows.{Going, Ended}
-use Rattle.ir_core.specs.Flat.{Program, flat_step, flat_run}
+use Rattle.ir_core.specs.Flat.{Program, NoValue, effect, flat_step, flat_run}
+use Rattle.ir_core.specs.Flat as flat
 
 least_by_minus_one : word_op Sdiv W32 2147483648 4294967295 ≡ NoMeaning
 least_by_minus_one = refl
@@ -92,6 +93,16 @@ misaligned = refl
 
 beyond : load (fresh 4 4 ∷ []) (Word W32) 4 (At 0 4) ≡ None
 beyond = refl
+
+-- an address is asked for, so a word in its place is a value of another type, while null is undefined
+through_a_word : effect (λ r. None) [] (instr.Load (record { 0 = 0 }) (Word W32) 4 (operand.Word 65536)) ≡ NoValue
+through_a_word = refl
+
+through_null : effect (λ r. None) [] (instr.Load (record { 0 = 0 }) (Word W32) 4 operand.Null) ≡ flat.NoMeaning
+through_null = refl
+
+onto_a_word : effect (λ r. None) [] (instr.Store Pointer 4 operand.Null (operand.Word 65536)) ≡ NoValue
+onto_a_word = refl
 
 abbrev a_byte_through : FlatBody
 a_byte_through = record {

@@ -1,5 +1,5 @@
 -- Which register an instruction writes, and to which blocks a terminator goes.
-use Rattle.std.proofs.Common.{◌≡◌, inl, inr, ℕ, Bool, true, false, if◌then◌else◌, nat_eq, List, [], ◌∷◌, ◌++◌, map, Option, Some, None, refl}
+use Rattle.std.proofs.Common.{◌≡◌, inl, inr, ℕ, Bool, true, false, ◌&&◌, if◌then◌else◌, nat_eq, List, [], ◌∷◌, ◌++◌, map, Option, Some, None, refl}
 use Rattle.oi_base.specs.declared.ids.RegId.{RegId}
 use Rattle.oi_base.specs.declared.ids.BlockId.{BlockId}
 use Rattle.oi_base.specs.Words.{modulus}
@@ -9,8 +9,8 @@ use Rattle.ir_core.specs.declared.flat.FlatInstr.TheVariants.{Bin, Icmp, Select,
 use Rattle.ir_core.specs.declared.flat.FlatEnd.{FlatEnd}
 use Rattle.ir_core.specs.declared.flat.FlatEnd.TheVariants.{Ret, Br, Cond, Switch, Unreachable}
 use Rattle.ir_core.specs.Memory.{Value, Memory, load, store}
-use Rattle.ir_core.specs.Rows.{Answer, Gives, NoGood, Mistyped, Read, Is, IsPoison, IsOther, as_word, bin, icmp, choose, cast_read, is_of}
-use Rattle.ir_core.specs.Flat.{Regs, Effect, Sets, Allocates, Stores, Puts, Takes, Enters, Goes, Returns, Stops, NoMeaning, NoValue, value_of, using, word_in, answered, load_gives, store_of, Distance, Far, PoisonFar, NoDistance, distance, gep_gives, effect, case_for, end_effect}
+use Rattle.ir_core.specs.Rows.{Answer, Gives, NoGood, Mistyped, Read, Is, IsPoison, IsOther, as_word, bin, icmp, choose, cast_read, is_pointer, is_of}
+use Rattle.ir_core.specs.Flat.{Regs, Effect, Sets, Allocates, Stores, Puts, Takes, Enters, Goes, Returns, Stops, NoMeaning, NoValue, value_of, using, word_in, answered, load_gives, store_gives, if_typed, Distance, Far, PoisonFar, NoDistance, distance, gep_gives, effect, case_for, end_effect}
 use Rattle.ir_core.specs.Rows.{moved}
 use Rattle.ir_core.specs.Formed.{written_by, of_result, targets}
 use Rattle.ir_core.proofs.Lists.{Has}
@@ -62,10 +62,13 @@ module _ (i : FlatInstr) where
   load_fits d None h = tt
   load_fits d (Some v) h = h
 
-  store_fits : (good : Bool) (o : Option Memory) → Fits i (store_of good o)
-  store_fits false o = tt
-  store_fits true None = tt
-  store_fits true (Some m) = tt
+  store_fits : (o : Option Memory) → Fits i (store_gives o)
+  store_fits None = tt
+  store_fits (Some m) = tt
+
+  typed_fits : (typed : Bool) (e : Effect) → Fits i e → Fits i (if_typed typed e)
+  typed_fits true e h = h
+  typed_fits false e h = tt
 
   gep_fits : (d : RegId) (v : Value) (k : Distance) → written_by i ≡ Some d.0 → Fits i (gep_gives d v k)
   gep_fits d v (Far k) h = answered_fits d (moved v k) h
@@ -79,8 +82,8 @@ fits regs m (Select d c a b) = let i : FlatInstr = Select d c a b in using_fits 
 fits regs m (Cast d c from to a) = let i : FlatInstr = Cast d c from to a in using_fits i (value_of regs a) _ (λ x. answered_fits i d (cast_read c from to (as_word (modulus from) x)) refl)
 fits regs m (Copy d a) = let i : FlatInstr = Copy d a in using_fits i (value_of regs a) _ (λ x. refl)
 fits regs m (Alloca d size align) = refl
-fits regs m (Load d s align a) = let i : FlatInstr = Load d s align a in using_fits i (value_of regs a) _ (λ x. load_fits i d (load m s align x) refl)
-fits regs m (Store s align v a) = let i : FlatInstr = Store s align v a in using_fits i (value_of regs v) _ (λ x. using_fits i (value_of regs a) _ (λ y. store_fits i (is_of s x) (store m s align x y)))
+fits regs m (Load d s align a) = let i : FlatInstr = Load d s align a in using_fits i (value_of regs a) _ (λ x. typed_fits i (is_pointer x) _ (load_fits i d (load m s align x) refl))
+fits regs m (Store s align v a) = let i : FlatInstr = Store s align v a in using_fits i (value_of regs v) _ (λ x. using_fits i (value_of regs a) _ (λ y. typed_fits i (is_of s x && is_pointer y) _ (store_fits i (store m s align x y))))
 fits regs m (Gep d a k ts) = let i : FlatInstr = Gep d a k ts in using_fits i (value_of regs a) _ (λ x. gep_fits i d x (distance regs k ts) refl)
 fits regs m (Call d f args) = refl
 fits regs m (Put d a) = let i : FlatInstr = Put d a in using_fits i (value_of regs a) _ (λ x. word_fits i (as_word 4294967296 x) _ (λ c. refl))

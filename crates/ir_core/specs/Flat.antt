@@ -1,5 +1,5 @@
 -- Runs of flat bodies.
-use Rattle.std.specs.Prelude.{ℕ, ◌+◌, ◌%◌, Bool, true, false, nat_eq, if◌then◌else◌, List, [], ◌∷◌, ◌++◌, length, take, Option, Some, None, slice_get}
+use Rattle.std.specs.Prelude.{ℕ, ◌+◌, ◌%◌, Bool, true, false, ◌&&◌, nat_eq, if◌then◌else◌, List, [], ◌∷◌, ◌++◌, length, take, Option, Some, None, slice_get}
 use Rattle.oi_base.specs.declared.ids.RegId.{RegId}
 use Rattle.oi_base.specs.declared.ids.BlockId.{BlockId}
 use Rattle.ir_core.specs.declared.flat.FlatOp.{FlatOp}
@@ -18,7 +18,7 @@ use Rattle.std.specs.Fn.{iterate}
 use Rattle.oi_base.specs.Follows.{Status, Going, Ended, Undefined, Stuck, Seen}
 use Rattle.oi_base.specs.Words.{modulus}
 use Rattle.ir_core.specs.Memory.{Value, Bits, At, NullPointer, Poisoned, Memory, load, store, fresh, kill, kill_all}
-use Rattle.ir_core.specs.Rows.{Answer, Gives, NoGood, Mistyped, Read, Is, IsPoison, IsOther, as_word, bin, icmp, choose, cast_read, scaled, moved, is_of}
+use Rattle.ir_core.specs.Rows.{Answer, Gives, NoGood, Mistyped, Read, Is, IsPoison, IsOther, as_word, bin, icmp, choose, cast_read, scaled, moved, is_pointer, is_of}
 
 -- a program: its globals, which are the first blocks of memory, and its functions' bodies
 pub record Program : Type 0 where
@@ -99,10 +99,10 @@ abbrev pub store_gives : Option Memory → Effect
 store_gives None = NoMeaning
 store_gives (Some m) = Stores m
 
--- a store of a value of its type
-abbrev pub store_of : Bool → Option Memory → Effect
-store_of true o = store_gives o
-store_of false o = NoValue
+-- where the operands are of the types that are asked for, else a value is missing
+abbrev pub if_typed : Bool → Effect → Effect
+if_typed true e = e
+if_typed false e = NoValue
 
 -- the distance that a GEP's terms make
 pub data Distance : Type 0 where
@@ -142,8 +142,8 @@ effect regs m (Select d c a b) = operand regs c (λ z. operand regs a (λ x. ope
 effect regs m (Cast d c from to a) = operand regs a (λ x. answered d (cast_read c from to (as_word (modulus from) x)))
 effect regs m (Copy d a) = operand regs a (λ x. Sets d x)
 effect regs m (Alloca d size align) = Allocates d size align
-effect regs m (Load d s align a) = operand regs a (λ x. load_gives d (load m s align x))
-effect regs m (Store s align v a) = operand regs v (λ x. operand regs a (λ y. store_of (is_of s x) (store m s align x y)))
+effect regs m (Load d s align a) = operand regs a (λ x. if_typed (is_pointer x) (load_gives d (load m s align x)))
+effect regs m (Store s align v a) = operand regs v (λ x. operand regs a (λ y. if_typed (is_of s x && is_pointer y) (store_gives (store m s align x y))))
 effect regs m (Gep d a k ts) = operand regs a (λ x. gep_gives d x (distance regs k ts))
 effect regs m (Call d f args) = Enters d f.0 (arguments regs args)
 effect regs m (Put d a) = operand regs a (λ x. word_in (as_word 4294967296 x) (λ c. Puts d (c % 256)))

@@ -1,5 +1,5 @@
 -- What the instructions and the ends of blocks of a formed body do, where their operands' values are there and of their types.
-use Rattle.std.proofs.Common.{◌≡◌, inl, inr, ℕ, ◌<◌, List, [], ◌∷◌, ◌++◌, map, Option, Some, None, All, Contains, Bool, true, false, nat_eq, if◌then◌else◌, refl, sym, subst, arith}
+use Rattle.std.proofs.Common.{◌≡◌, inl, inr, ℕ, ◌<◌, List, [], ◌∷◌, ◌++◌, map, Option, Some, None, All, Contains, Bool, true, false, ◌&&◌, nat_eq, if◌then◌else◌, refl, sym, subst, arith}
 use Rattle.std.specs.List.{AllByRecursion as Each}
 use Rattle.std.proofs.lemmas.List.Elements.{All-head, All-tail}
 use Rattle.oi_base.specs.declared.words.Width.TheVariants.{W1, W32}
@@ -19,8 +19,8 @@ use Rattle.ir_core.specs.declared.flat.FlatEnd.TheVariants.{Ret, Br, Cond, Switc
 use Rattle.ir_core.specs.declared.flat.FlatBlock.{FlatBlock}
 use Rattle.ir_core.specs.declared.flat.FlatBody.{FlatBody}
 use Rattle.ir_core.specs.Memory.{Value, Bits, At, NullPointer, Poisoned, Memory, load, store}
-use Rattle.ir_core.specs.Rows.{Answer, Gives, NoGood, Mistyped, Read, Is, IsPoison, IsOther, as_word, bin, icmp, choose, cast_read, moved}
-use Rattle.ir_core.specs.Flat.{Program, Regs, Effect, Sets, Allocates, Stores, Puts, Takes, Enters, Goes, Returns, Stops, NoMeaning, NoValue, value_of, using, operand, word_in, answered, load_gives, store_gives, Distance, Far, PoisonFar, NoDistance, further, read_option, distance, gep_gives, arguments, effect, case_for, end_effect}
+use Rattle.ir_core.specs.Rows.{Answer, Gives, NoGood, Mistyped, Read, Is, IsPoison, IsOther, as_word, bin, icmp, choose, cast_read, moved, is_pointer, is_of}
+use Rattle.ir_core.specs.Flat.{Program, Regs, Effect, Sets, Allocates, Stores, Puts, Takes, Enters, Goes, Returns, Stops, NoMeaning, NoValue, value_of, using, operand, word_in, answered, load_gives, store_gives, if_typed, Distance, Far, PoisonFar, NoDistance, further, read_option, distance, gep_gives, arguments, effect, case_for, end_effect}
 use Rattle.ir_core.specs.Formed.{FuncType, HasType, Receives, AllTyped, ReturnsType, IsBlock, of_result, written_by, used_by, used_at_end, targets}
 use Rattle.ir_core.proofs.Lists.{Has, contains}
 use Rattle.ir_safety.proofs.Safe.{IsTypedInstr, IsTypedEnd}
@@ -102,6 +102,16 @@ module _ (p : Program) (types : ℕ → Scalar) (funcs : ℕ → FuncType) where
   store_may None = tt
   store_may (Some m) = refl
 
+  typed_may : (written : Option ℕ) (typed : Bool) (e : Effect) → typed ≡ true → MayDo written e → MayDo written (if_typed typed e)
+  typed_may written true e t h = h
+  typed_may written false e t h = absurd cc
+
+  pointer_typed : (v : Value) → IsOf scalar.Pointer v → is_pointer v ≡ true
+  pointer_typed (Bits a) h = h
+  pointer_typed (At b o) h = refl
+  pointer_typed NullPointer h = refl
+  pointer_typed Poisoned h = refl
+
   -- distances
   abbrev Spans : Distance → Type 0
   Spans (Far k) = Unit {0}
@@ -162,10 +172,11 @@ module _ (p : Program) (types : ℕ → Scalar) (funcs : ℕ → FuncType) where
   effect_may regs m (Copy d a) h t c = use_value (MayDo (Some d.0)) regs a (types d.0) _ h.0 t (λ x hx. (refl, hx))
   effect_may regs m (Alloca d size align) h t c = (refl, t)
   effect_may regs m (Load d s align a) h t c =
-      use_value (MayDo (Some d.0)) regs a scalar.Pointer _ h.0 t.1 (λ x hx. load_may d s (load m s align x) t.0 (load_of m s align x))
+      use_value (MayDo (Some d.0)) regs a scalar.Pointer _ h.0 t.1 (λ x hx.
+      typed_may (Some d.0) (is_pointer x) _ (pointer_typed x hx) (load_may d s (load m s align x) t.0 (load_of m s align x)))
   effect_may regs m (Store s align v a) h t c =
       use_value (MayDo None) regs v s _ h.0 t.0 (λ x hx. use_value (MayDo None) regs a scalar.Pointer _ h.1.0 t.1 (λ y hy.
-      rw hx (store_may (store m s align x y))))
+      typed_may None (is_of s x && is_pointer y) _ (rw hx (pointer_typed y hy)) (store_may (store m s align x y))))
   effect_may regs m (Gep d a k ts) h t c =
       use_value (MayDo (Some d.0)) regs a scalar.Pointer _ h.0 t.1 (λ x hx. gep_may d x (distance regs k ts) t.0 hx (distance_spans regs k ts h.1 t.2))
   effect_may regs m (Call d f args) h t c = (refl, arguments_of regs args (funcs f.0).params h t.0, t.1, c)
