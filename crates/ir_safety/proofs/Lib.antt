@@ -27,3 +27,5 @@ pub mod FormedPhis
 pub mod FormedSizes
 pub mod FormedBodies
 pub mod FewNumbers
+pub mod Offsets
+pub mod TypedRuns

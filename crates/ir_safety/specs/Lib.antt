@@ -1,1 +1,2 @@
 pub mod PlainTypes
+pub mod TypedRuns

@@ -48,6 +48,10 @@ plain_types m g = option_map_or func_types (slice_get m.funcs g) (λ (r : ℕ). 
 abbrev pub plain_funcs : Module → ℕ → FuncType
 plain_funcs m g = option_map_or func_type (slice_get m.funcs g) (record { params = []; result = None })
 
--- registers and blocks of each function have numbers of 32 bits
+-- registers and blocks of a function have numbers of 32 bits
+abbrev pub HasFewOwn : Func → Type 0
+HasFewOwn f = (length (registers f) < 4294967296) × (length f.blocks < 4294967296)
+
+-- those of each function
 abbrev pub HasFewNumbers : Module → Type 0
-HasFewNumbers m = All (λ (f : Func). (length (registers f) < 4294967296) × (length f.blocks < 4294967296)) m.funcs
+HasFewNumbers m = All HasFewOwn m.funcs

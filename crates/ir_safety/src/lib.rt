@@ -5,6 +5,7 @@
 mod laws;
 
 pub use laws::{
-    a_formed_run_is_never_stuck, a_valid_run_is_never_stuck, plain_bodies_are_formed,
+    a_formed_run_is_never_stuck, a_plain_body_is_formed, a_valid_run_is_never_stuck,
+    plain_bodies_are_formed, registers_hold_values_of_their_types,
     weight_bounds_registers_and_blocks,
 };
