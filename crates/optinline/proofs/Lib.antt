@@ -9,6 +9,8 @@ pub mod Ended
 pub mod FirstUnbuilt
 pub mod Lengths
 pub mod Limits
+pub mod MainFormed
+pub mod MainFrame
 pub mod ModuleRuns
 pub mod NeverStuck
 pub mod OneMain

@@ -22,41 +22,45 @@ use Rattle.optinline.specs.declared.body.Sum.TheVariants.{Add, Sub}
 use Rattle.optinline.specs.declared.body.Op.{Op}
 use Rattle.optinline.specs.declared.body.Body.{Body}
 use Rattle.optinline.specs.Bodies.{IsKnown, OpIsKnown, AreDefined, IsDefined}
-use Rattle.optinline.specs.Meaning.{operand_of, bin_op, instr_of, instrs_of, flat_program}
-use Rattle.optinline.specs.Layout.{main_frame}
+use Rattle.optinline.specs.Lowering.{slot}
+use Rattle.optinline.specs.Meaning.{operand_of, bin_op, instr_of, instrs_of, flat_body, flat_program}
+use Rattle.optinline.proofs.MainFrame.{slot_is}
 
 -- ---- the program is one of sums and differences
 
-plain_is : (count n : ℕ) (v : Operand) → count ≤ n → IsKnown count v → IsPlain (main_frame n) (operand_of v)
-plain_is count n (Reg k) h known = (omega arith, refl)
-plain_is count n (Word w) h known = known
+module _ (b : Body) where
+  abbrev pub plain_is : (count : ℕ) (v : Operand) → count ≤ length b.ops → IsKnown count v → IsPlain (flat_body b) (operand_of v)
+  plain_is count (Reg k) h known = (slot k, slot_is b k (omega arith))
+  plain_is count (Word w) h known = known
 
-sum_is : (number n : ℕ) (op : Op) → number < n → OpIsKnown number op → IsSum (main_frame n) (instr_of number op)
-sum_is number n op h known = by_sum op.sum
-  where
-    left : IsPlain (main_frame n) (operand_of op.left)
-    left = plain_is number n op.left (omega arith) known.0
+  sum_is : (number : ℕ) (op : Op) → number < length b.ops → OpIsKnown number op → IsSum (flat_body b) (instr_of number op)
+  sum_is number op h known = by_sum op.sum
+    where
+      left : IsPlain (flat_body b) (operand_of op.left)
+      left = plain_is number op.left (omega arith) known.0
 
-    right : IsPlain (main_frame n) (operand_of op.right)
-    right = plain_is number n op.right (omega arith) known.1
+      right : IsPlain (flat_body b) (operand_of op.right)
+      right = plain_is number op.right (omega arith) known.1
 
-    by_sum : (t : Sum) → IsSum (main_frame n) (instr_of number (record { sum = t; left = op.left; right = op.right }))
-    by_sum Add = (left, right, h, refl)
-    by_sum Sub = (left, right, h, refl)
+      by_sum : (t : Sum) → IsSum (flat_body b) (instr_of number (record { sum = t; left = op.left; right = op.right }))
+      by_sum Add = (left, right, (slot number, slot_is b number h))
+      by_sum Sub = (left, right, (slot number, slot_is b number h))
 
-sums_are : (number n : ℕ) (ops : List Op) → number + length ops ≤ n → AreDefined number ops → All (IsSum (main_frame n)) (instrs_of number ops)
-sums_are number n [] h defined = λ k d l. absurd (omega arith)
-sums_are number n (op ∷ ops) h defined = All-cons (IsSum (main_frame n)) (instr_of number op) (instrs_of (number + 1) ops) (sum_is number n op (omega arith) defined.0) (sums_are (number + 1) n ops (omega arith) defined.1)
+  sums_are : (number : ℕ) (ops : List Op) → number + length ops ≤ length b.ops → AreDefined number ops → All (IsSum (flat_body b)) (instrs_of number ops)
+  sums_are number [] h defined = λ k d l. absurd (omega arith)
+  sums_are number (op ∷ ops) h defined = All-cons (IsSum (flat_body b)) (instr_of number op) (instrs_of (number + 1) ops) (sum_is number op (omega arith) defined.0) (sums_are (number + 1) ops (omega arith) defined.1)
 
-pub sums_of : (b : Body) → IsDefined b → IsSums (flat_program b) (main_frame (length b.ops))
-sums_of b defined = record {
-  code = instrs_of 0 b.ops;
-  value = operand_of b.value;
-  regs = length b.ops;
-  body = refl;
-  sums = sums_are 0 (length b.ops) b.ops (omega arith) defined.ops;
-  returned = plain_is (length b.ops) (length b.ops) b.value (omega arith) defined.value;
-}
+  pub sums_of : IsDefined b → IsSums (flat_program b)
+  sums_of defined = record {
+    code = instrs_of 0 b.ops;
+    value = operand_of b.value;
+    body = flat_body b;
+    is_body = refl;
+    no_parameters = refl;
+    one_block = refl;
+    sums = sums_are 0 b.ops (omega arith) defined.ops;
+    returned = plain_is (length b.ops) b.value (omega arith) defined.value;
+  }
 
 -- ---- its run
 
@@ -70,7 +74,7 @@ pub record IsOperationAt (number : ℕ) (i : FlatInstr) : Type 0 where
   pub is : i ≡ instr_of number op
   pub known : OpIsKnown number op
 
-operation_at : (number : ℕ) (ops : List Op) (k : ℕ) (i : FlatInstr) → AreDefined number ops → slice_get (instrs_of number ops) k ≡ Some i → IsOperationAt (number + k) i
+pub operation_at : (number : ℕ) (ops : List Op) (k : ℕ) (i : FlatInstr) → AreDefined number ops → slice_get (instrs_of number ops) k ≡ Some i → IsOperationAt (number + k) i
 operation_at number [] k i defined e = absurd (no_instr e)
   where
     no_instr : None ≡ Some i → ⊥

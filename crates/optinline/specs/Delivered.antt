@@ -1,5 +1,5 @@
 -- What a build that is done leaves on a desk: an object that does what the module says, of the least size.
-use Rattle.std.specs.Prelude.{◌≡◌, ℕ, ◌≤◌, List, [], length, Some, All}
+use Rattle.std.specs.Prelude.{◌≡◌, ℕ, ◌≤◌, ◌<◌, List, [], length, Some, All}
 use Rattle.std.specs.FinMap as finite
 use Rattle.oi_base.specs.declared.ids.SiteId.{SiteId}
 use Rattle.oi_world.specs.Desk.{Files}
@@ -41,12 +41,12 @@ IsLeast m map = (other : List (SiteId × Label)) → IsMapOver m other → size_
 -- ---- objects
 
 -- An object does what a module says: its bytes are the ELF file of this image, and the run of what is loaded of it refines
--- the run of the module, in both directions, on every input. No frame is larger than the largest.
+-- the run of the module, in both directions, on every input of bytes. No frame is larger than the largest.
 pub record DoesAs (m : Module) (largest : ℕ) (object : List ℕ) (image : Parts) : Type 0 where
   pub file : object ≡ elf image
   pub bounds : IsImage image
   pub words : All HasWords image.symbols
-  pub refines : (input : List ℕ) → Refines largest (src m input) (run (segments_of image) input)
+  pub refines : (input : List ℕ) → All (λ (b : ℕ). b < 256) input → Refines largest (src m input) (run (segments_of image) input)
 
 -- The words are a build of the text of a valid module. OBJECT does what the module says, and its text has the size of
 -- the map that DECISIONS holds; no map gives less; and CERT is the certificate that states it.

@@ -1,4 +1,4 @@
-ghost use Rattle.std.specs.Prelude.{◌≡◌, ◌∷◌, [], ℕ, List, length};
+ghost use Rattle.std.specs.Prelude.{◌≡◌, ◌<◌, ◌∷◌, [], ℕ, List, All, length};
 ghost use Rattle.ir_core.specs.declared.module.Module as modules;
 ghost use Rattle.ir_core.specs.Flat.{flat_run};
 ghost use Rattle.ir_core.specs.Proper.{IsProper};
@@ -23,8 +23,8 @@ pub fn a_module_runs_as_its_flat_body()
 {}
 
 /// The run of the image of a `main`, whose registers are defined before they are used, refines the run of its flat body,
-/// in both directions and on every input. It does nothing: its contract is the law.
+/// in both directions and on every input of bytes. It does nothing: its contract is the law.
 #[tactic(auto, using(crate::proofs::Refined::image_refines))]
 pub fn an_image_refines_its_body()
-    ensures { (b : bodies.Body) → IsDefined b → (input : List ℕ) → Refines (frame_size (length b.ops)) (flat_run (flat_program b) input) (run (segments_of (image 16 (main_function b ∷ []))) input) }
+    ensures { (b : bodies.Body) → IsDefined b → (input : List ℕ) → All (λ c. c < 256) input → Refines (frame_size (length b.ops)) (flat_run (flat_program b) input) (run (segments_of (image 16 (main_function b ∷ []))) input) }
 {}

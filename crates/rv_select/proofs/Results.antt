@@ -10,7 +10,7 @@ use Rattle.ir_core.specs.Memory.{Value, Bits, At, NullPointer, Poisoned, Memory}
 use Rattle.ir_core.specs.Rows.{Gives, NoGood, Mistyped, Is, IsPoison, IsOther, as_word, bin, bin_read, outcome, of_unknown}
 use Rattle.rv_isa.specs.Arithmetic.{wrapping_add, wrapping_sub}
 use Rattle.rv_select.specs.Stands.{IsWordOf, IsMade}
-use Rattle.rv_select.proofs.BinRow.{cut, cut_low}
+use Rattle.rv_select.proofs.Cuts.{cut, cut_low}
 
 pub add_low : (w : Width) (a b : ℕ) → wrapping_add a b % modulus w ≡ (a + b) % modulus w
 add_low W1 a b = omega arith

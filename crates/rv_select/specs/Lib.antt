@@ -1,3 +1,4 @@
+pub mod Branches
 pub mod Carried
 pub mod Code
 pub mod Pending
@@ -7,6 +8,7 @@ pub mod Lowered
 pub mod Parts
 pub mod Stands
 pub mod Sums
-pub mod Table
+pub mod Linked
 pub mod Texts
 pub mod Worked
+pub mod WorkedBranches

@@ -1,4 +1,4 @@
--- The rows of the lowering: the items of each instruction and of each end of a block.
+-- The rows of the lowering: the drafts of each instruction and of each end of a block.
 use Rattle.std.specs.Prelude.{ℕ, zero, suc, ◌+◌, ◌==◌, nat_eq, Bool, true, false, if◌then◌else◌, List, [], ◌∷◌, ◌++◌, Option, Some, None, slice_get, map, length, ◌≤◌, pos}
 use Rattle.std.specs.List.{flat_map}
 use Rattle.oi_base.specs.declared.words.Width.{Width}
@@ -27,38 +27,40 @@ use Rattle.ir_core.specs.declared.flat.FlatBlock.{FlatBlock}
 use Rattle.ir_core.specs.Flat.{entry_for}
 use Rattle.ir_core.specs.Formed.{targets}
 use Rattle.frame_layout.specs.Offsets.{Offsets, slot_of, shadow_of, place_of}
-use Rattle.rv_select.specs.declared.item.PendingItem.{PendingItem}
+use Rattle.rv_select.specs.declared.item.Draft.{Draft}
+use Rattle.rv_select.specs.declared.item.Draft.TheVariants.{Fixed, Jump, Near}
+use Rattle.rv_select.specs.declared.item.Test.TheVariants.{Equal, NotEqual}
 use Rattle.rv_select.specs.declared.item.Item.TheVariants as item
-use Rattle.rv_select.specs.Pending.{fixed, words, jump_to}
+use Rattle.rv_select.specs.Pending.{words}
 use Rattle.rv_select.specs.Parts.{zero_register, t0, t1, t2, a0, a7, load_word, load_slot, store_slot, load_home, open_frame, epilogue, zero_extend, sign_extend, signs, machine_op, cuts}
 
 -- ---- operands and results
 
 -- what stands in a slot into a register of the machine, and back; without a slot nothing
-abbrev pub load_from : ℕ → Option ℕ → List PendingItem
+abbrev pub load_from : ℕ → Option ℕ → List Draft
 load_from r None = []
 load_from r (Some o) = words (load_slot r o)
 
-abbrev pub store_to : ℕ → Option ℕ → List PendingItem
+abbrev pub store_to : ℕ → Option ℕ → List Draft
 store_to r None = []
 store_to r (Some o) = words (store_slot r o)
 
 -- a register is an alloca's, whose address is its value, or stands in its slot
-abbrev pub load_register : ℕ → Option ℕ → Option ℕ → List PendingItem
+abbrev pub load_register : ℕ → Option ℕ → Option ℕ → List Draft
 load_register r (Some o) slot = words (load_home r o)
 load_register r None slot = load_from r slot
 
-abbrev pub load : Offsets → ℕ → FlatOp → List PendingItem
+abbrev pub load : Offsets → ℕ → FlatOp → List Draft
 load f r (Reg q) = load_register r (place_of f q.0) (slot_of f q.0)
 load f r (Word w) = words (load_word r w)
 load f r Null = words (load_word r 0)
 load f r Poison = words (load_word r 0)
-load f r (Address g k) = fixed (item.AddressHigh r g k) ∷ fixed (item.AddressLow r g k) ∷ []
+load f r (Address g k) = Fixed (item.AddressHigh r g k) ∷ Fixed (item.AddressLow r g k) ∷ []
 
-abbrev pub store : Offsets → ℕ → RegId → List PendingItem
+abbrev pub store : Offsets → ℕ → RegId → List Draft
 store f r d = store_to r (slot_of f d.0)
 
-abbrev pub store_result : Offsets → Option RegId → List PendingItem
+abbrev pub store_result : Offsets → Option RegId → List Draft
 store_result f None = []
 store_result f (Some d) = store f a0 d
 
@@ -117,24 +119,24 @@ put_down (scalar.Word W32) = rv.Sw t1 t0 (pos 0)
 put_down scalar.Pointer = rv.Sw t1 t0 (pos 0)
 
 -- t1 times a stride
-abbrev pub scaled : ℕ → List PendingItem
+abbrev pub scaled : ℕ → List Draft
 scaled stride = if stride == 1 then [] else words (load_word t2 stride) ++ words (rv.Mul t1 t1 t2 ∷ [])
 
 -- a term of an address, added to t0
-abbrev pub term : Offsets → Term → List PendingItem
+abbrev pub term : Offsets → Term → List Draft
 term f t = load f t1 t.operand ++ words (sign_extend t.width t1) ++ scaled t.stride ++ words (rv.Add t0 t0 t1 ∷ [])
 
 -- the constant part of an address, added to t0
-abbrev pub constant_part : ℕ → List PendingItem
+abbrev pub constant_part : ℕ → List Draft
 constant_part k = if k == 0 then [] else words (load_word t1 k) ++ words (rv.Add t0 t0 t1 ∷ [])
 
 -- arguments from a number on, into the argument registers
-abbrev pub arguments : Offsets → ℕ → List FlatOp → List PendingItem
+abbrev pub arguments : Offsets → ℕ → List FlatOp → List Draft
 arguments f n [] = []
 arguments f n (o ∷ os) = load f (a0 + n) o ++ arguments f (n + 1) os
 
-abbrev pub call_pair : FuncId → List PendingItem
-call_pair g = fixed (item.CallHigh g) ∷ fixed (item.CallLow g) ∷ []
+abbrev pub call_pair : FuncId → List Draft
+call_pair g = Fixed (item.CallHigh g) ∷ Fixed (item.CallLow g) ∷ []
 
 -- a call of the environment
 abbrev pub environment_call : ℕ → List Rv
@@ -146,7 +148,7 @@ HasFewArguments (Call d g args) = length args ≤ 8
 HasFewArguments i = Unit {0}
 
 -- one row an instruction
-abbrev pub instr : Offsets → FlatInstr → List PendingItem
+abbrev pub instr : Offsets → FlatInstr → List Draft
 instr f (Bin d op w a b) = load f t0 a ++ load f t1 b ++ words (signs op w) ++ words (machine_op op ∷ []) ++ words (cuts op w) ++ store f t0 d
 instr f (Icmp d c s a b) = load f t0 a ++ load f t1 b ++ words (compared c (width_of s)) ++ words (test c) ++ store f t0 d
 instr f (Select d c a b) = load f t0 c ++ load f t1 a ++ load f t2 b ++ words choice ++ store f t1 d
@@ -164,25 +166,25 @@ instr f (Exit a) = load f a0 a ++ words (environment_call 3)
 -- ---- blocks
 
 -- at a block's head each phi's next value comes out of its shadow
-abbrev pub take_phi : Offsets → Phi → List PendingItem
+abbrev pub take_phi : Offsets → Phi → List Draft
 take_phi f p = load_from t0 (shadow_of f p.reg.0) ++ store f t0 p.reg
 
-abbrev pub head : Offsets → List Phi → List PendingItem
+abbrev pub head : Offsets → List Phi → List Draft
 head f phis = flat_map (take_phi f) phis
 
 -- after block n each phi of a successor has its next value put into its shadow
-abbrev pub load_entry : Offsets → Option FlatOp → List PendingItem
+abbrev pub load_entry : Offsets → Option FlatOp → List Draft
 load_entry f None = []
 load_entry f (Some o) = load f t0 o
 
-abbrev pub give_phi : Offsets → ℕ → Phi → List PendingItem
+abbrev pub give_phi : Offsets → ℕ → Phi → List Draft
 give_phi f n p = load_entry f (entry_for n p.entries) ++ store_to t0 (shadow_of f p.reg.0)
 
 abbrev pub phis_of : Option FlatBlock → List Phi
 phis_of None = []
 phis_of (Some k) = k.phis
 
-abbrev pub give_phis : Offsets → List FlatBlock → ℕ → ℕ → List PendingItem
+abbrev pub give_phis : Offsets → List FlatBlock → ℕ → ℕ → List Draft
 give_phis f blocks n to = flat_map (give_phi f n) (phis_of (slice_get blocks to))
 
 abbrev pub numbers : List BlockId → List ℕ
@@ -201,42 +203,46 @@ distinct_from seen (x ∷ xs) = if is_in seen x then distinct_from seen xs else 
 abbrev pub successors : FlatEnd → List ℕ
 successors e = distinct_from [] (targets e)
 
-abbrev pub before_end : Offsets → List FlatBlock → ℕ → FlatEnd → List PendingItem
+abbrev pub before_end : Offsets → List FlatBlock → ℕ → FlatEnd → List Draft
 before_end f blocks n e = flat_map (give_phis f blocks n) (successors e)
 
 -- a jump, which is left out where its block comes next
-abbrev pub jump : ℕ → BlockId → List PendingItem
-jump n b = if nat_eq b.0 (n + 1) then [] else jump_to b ∷ []
+abbrev pub jump : ℕ → BlockId → List Draft
+jump n b = if nat_eq b.0 (n + 1) then [] else Jump b ∷ []
 
-abbrev pub case_code : Case → List PendingItem
-case_code c = words (load_word t1 c.word) ++ words (rv.Bne t0 t1 (pos 8) ∷ []) ++ jump_to c.to ∷ []
+-- to one block where t0 is not 0, else to another
+abbrev pub choose : ℕ → BlockId → BlockId → List Draft
+choose n t e = if nat_eq t.0 (n + 1) then Near Equal t0 zero_register e ∷ [] else Near NotEqual t0 zero_register t ∷ jump n e
 
-abbrev pub load_value : Offsets → Option FlatOp → List PendingItem
+abbrev pub case_code : Case → List Draft
+case_code c = words (load_word t1 c.word) ++ Near Equal t0 t1 c.to ∷ []
+
+abbrev pub load_value : Offsets → Option FlatOp → List Draft
 load_value f None = []
 load_value f (Some a) = load f a0 a
 
 -- one row an end
-abbrev pub end_code : Offsets → ℕ → FlatEnd → List PendingItem
+abbrev pub end_code : Offsets → ℕ → FlatEnd → List Draft
 end_code f n (Ret v) = load_value f v ++ words (epilogue f.bytes)
 end_code f n (Br b) = jump n b
-end_code f n (Cond c t e) = load f t0 c ++ words (rv.Beq t0 zero_register (pos 8) ∷ []) ++ jump_to t ∷ [] ++ jump n e
+end_code f n (Cond c t e) = load f t0 c ++ choose n t e
 end_code f n (Switch v w cases other) = load f t0 v ++ flat_map case_code cases ++ jump n other
 end_code f n Unreachable = words (rv.Ebreak ∷ [])
 
-abbrev pub block : Offsets → List FlatBlock → ℕ → FlatBlock → List PendingItem
+abbrev pub block : Offsets → List FlatBlock → ℕ → FlatBlock → List Draft
 block f blocks n k = head f k.phis ++ flat_map (instr f) k.code ++ before_end f blocks n k.end ++ end_code f n k.end
 
 -- blocks from a number on
-abbrev pub blocks_from : Offsets → List FlatBlock → ℕ → List FlatBlock → List PendingItem
+abbrev pub blocks_from : Offsets → List FlatBlock → ℕ → List FlatBlock → List Draft
 blocks_from f blocks n [] = []
 blocks_from f blocks n (k ∷ ks) = block f blocks n k ++ blocks_from f blocks (n + 1) ks
 
 -- ---- bodies
 
 -- each parameter, which comes in an argument register, into its slot
-abbrev pub keep_parameters : Offsets → ℕ → List PendingItem
+abbrev pub keep_parameters : Offsets → ℕ → List Draft
 keep_parameters f zero = []
 keep_parameters f (suc n) = keep_parameters f n ++ store f (a0 + n) (record { 0 = n })
 
-abbrev pub prologue : Offsets → ℕ → List PendingItem
+abbrev pub prologue : Offsets → ℕ → List Draft
 prologue f params = words (open_frame f.bytes) ++ keep_parameters f params

@@ -208,14 +208,14 @@ others =
     record { body = record { params = 0; regs = 3; blocks = record { phis = []; code = flat.Alloca (record { 0 = 0 }) 65000 8 ∷ flat.Get (Some (record { 0 = 1 })) ∷ flat.Put (Some (record { 0 = 2 })) (operand.Reg (record { 0 = 1 })) ∷ []; end = ends.Ret (Some (operand.Reg (record { 0 = 2 }))) } ∷ [] }; expected = items.Word (rv.Lui 5 (pos 16)) ∷ items.Word (rv.Addi 5 5 (neg_ℤ (pos 512))) ∷ items.Word (rv.Sub 2 2 5) ∷ items.Word (rv.Sw 2 1 (pos 0)) ∷ items.Word (rv.Addi 17 0 (pos 2)) ∷ items.Word rv.Ecall ∷ items.Word (rv.Sw 2 10 (pos 4)) ∷ items.Word (rv.Lw 10 2 (pos 4)) ∷ items.Word (rv.Addi 17 0 (pos 1)) ∷ items.Word rv.Ecall ∷ items.Word (rv.Sw 2 10 (pos 8)) ∷ items.Word (rv.Lw 10 2 (pos 8)) ∷ items.Word (rv.Lw 1 2 (pos 0)) ∷ items.Word (rv.Lui 5 (pos 16)) ∷ items.Word (rv.Addi 5 5 (neg_ℤ (pos 512))) ∷ items.Word (rv.Add 2 2 5) ∷ items.Word (rv.Jalr 0 1 (pos 0)) ∷ [] } ∷
     record { body = record { params = 2; regs = 5; blocks = record { phis = []; code = flat.Gep (record { 0 = 2 }) (operand.Reg (record { 0 = 0 })) 0 ([]) ∷ flat.Gep (record { 0 = 3 }) (operand.Reg (record { 0 = 0 })) 8 (record { operand = (operand.Reg (record { 0 = 1 })); width = W32; stride = 4 } ∷ record { operand = (operand.Word 3); width = W8; stride = 1 } ∷ []) ∷ flat.Gep (record { 0 = 4 }) (operand.Address 1 0) 4294967292 (record { operand = (operand.Reg (record { 0 = 1 })); width = W16; stride = 5000 } ∷ record { operand = (operand.Reg (record { 0 = 1 })); width = W1; stride = 1 } ∷ []) ∷ []; end = ends.Ret (Some (operand.Reg (record { 0 = 4 }))) } ∷ [] }; expected = items.Word (rv.Addi 2 2 (neg_ℤ (pos 32))) ∷ items.Word (rv.Sw 2 1 (pos 0)) ∷ items.Word (rv.Sw 2 10 (pos 4)) ∷ items.Word (rv.Sw 2 11 (pos 8)) ∷ items.Word (rv.Lw 5 2 (pos 4)) ∷ items.Word (rv.Sw 2 5 (pos 12)) ∷ items.Word (rv.Lw 5 2 (pos 4)) ∷ items.Word (rv.Lw 6 2 (pos 8)) ∷ items.Word (rv.Addi 7 0 (pos 4)) ∷ items.Word (rv.Mul 6 6 7) ∷ items.Word (rv.Add 5 5 6) ∷ items.Word (rv.Addi 6 0 (pos 3)) ∷ items.Word (rv.Slli 6 6 (pos 24)) ∷ items.Word (rv.Srai 6 6 (pos 24)) ∷ items.Word (rv.Add 5 5 6) ∷ items.Word (rv.Addi 6 0 (pos 8)) ∷ items.Word (rv.Add 5 5 6) ∷ items.Word (rv.Sw 2 5 (pos 16)) ∷ items.AddressHigh 5 1 0 ∷ items.AddressLow 5 1 0 ∷ items.Word (rv.Lw 6 2 (pos 8)) ∷ items.Word (rv.Slli 6 6 (pos 16)) ∷ items.Word (rv.Srai 6 6 (pos 16)) ∷ items.Word (rv.Lui 7 (pos 1)) ∷ items.Word (rv.Addi 7 7 (pos 904)) ∷ items.Word (rv.Mul 6 6 7) ∷ items.Word (rv.Add 5 5 6) ∷ items.Word (rv.Lw 6 2 (pos 8)) ∷ items.Word (rv.Slli 6 6 (pos 31)) ∷ items.Word (rv.Srai 6 6 (pos 31)) ∷ items.Word (rv.Add 5 5 6) ∷ items.Word (rv.Addi 6 0 (neg_ℤ (pos 4))) ∷ items.Word (rv.Add 5 5 6) ∷ items.Word (rv.Sw 2 5 (pos 20)) ∷ items.Word (rv.Lw 10 2 (pos 20)) ∷ items.Word (rv.Lw 1 2 (pos 0)) ∷ items.Word (rv.Addi 2 2 (pos 32)) ∷ items.Word (rv.Jalr 0 1 (pos 0)) ∷ [] } ∷
     record { body = record { params = 1; regs = 3; blocks = record { phis = []; code = flat.Call (Some (record { 0 = 1 })) (record { 0 = 2 }) ((operand.Reg (record { 0 = 0 })) ∷ (operand.Word 5) ∷ (operand.Address 0 4) ∷ []) ∷ flat.Call None (record { 0 = 0 }) ([]) ∷ flat.Call (Some (record { 0 = 2 })) (record { 0 = 1 }) ((operand.Reg (record { 0 = 1 })) ∷ (operand.Reg (record { 0 = 1 })) ∷ (operand.Reg (record { 0 = 1 })) ∷ (operand.Reg (record { 0 = 1 })) ∷ operand.Null ∷ operand.Poison ∷ (operand.Word 4096) ∷ (operand.Word 1) ∷ []) ∷ []; end = ends.Ret (Some (operand.Reg (record { 0 = 2 }))) } ∷ [] }; expected = items.Word (rv.Addi 2 2 (neg_ℤ (pos 16))) ∷ items.Word (rv.Sw 2 1 (pos 0)) ∷ items.Word (rv.Sw 2 10 (pos 4)) ∷ items.Word (rv.Lw 10 2 (pos 4)) ∷ items.Word (rv.Addi 11 0 (pos 5)) ∷ items.AddressHigh 12 0 4 ∷ items.AddressLow 12 0 4 ∷ items.CallHigh (record { 0 = 2 }) ∷ items.CallLow (record { 0 = 2 }) ∷ items.Word (rv.Sw 2 10 (pos 8)) ∷ items.CallHigh (record { 0 = 0 }) ∷ items.CallLow (record { 0 = 0 }) ∷ items.Word (rv.Lw 10 2 (pos 8)) ∷ items.Word (rv.Lw 11 2 (pos 8)) ∷ items.Word (rv.Lw 12 2 (pos 8)) ∷ items.Word (rv.Lw 13 2 (pos 8)) ∷ items.Word (rv.Addi 14 0 (pos 0)) ∷ items.Word (rv.Addi 15 0 (pos 0)) ∷ items.Word (rv.Lui 16 (pos 1)) ∷ items.Word (rv.Addi 17 0 (pos 1)) ∷ items.CallHigh (record { 0 = 1 }) ∷ items.CallLow (record { 0 = 1 }) ∷ items.Word (rv.Sw 2 10 (pos 12)) ∷ items.Word (rv.Lw 10 2 (pos 12)) ∷ items.Word (rv.Lw 1 2 (pos 0)) ∷ items.Word (rv.Addi 2 2 (pos 16)) ∷ items.Word (rv.Jalr 0 1 (pos 0)) ∷ [] } ∷
-    record { body = record { params = 0; regs = 4; blocks = record { phis = []; code = []; end = ends.Br (record { 0 = 1 }) } ∷ record { phis = record { reg = (record { 0 = 0 }); entries = record { from = (record { 0 = 0 }); value = (operand.Word 1) } ∷ record { from = (record { 0 = 1 }); value = (operand.Reg (record { 0 = 1 })) } ∷ [] } ∷ record { reg = (record { 0 = 1 }); entries = record { from = (record { 0 = 0 }); value = (operand.Word 2) } ∷ record { from = (record { 0 = 1 }); value = (operand.Reg (record { 0 = 0 })) } ∷ [] } ∷ record { reg = (record { 0 = 2 }); entries = record { from = (record { 0 = 0 }); value = (operand.Word 0) } ∷ record { from = (record { 0 = 1 }); value = (operand.Reg (record { 0 = 3 })) } ∷ [] } ∷ []; code = flat.Bin (record { 0 = 3 }) op.Add W32 (operand.Reg (record { 0 = 2 })) (operand.Word 1) ∷ []; end = ends.Cond (operand.Reg (record { 0 = 3 })) (record { 0 = 2 }) (record { 0 = 1 }) } ∷ record { phis = []; code = []; end = ends.Ret (Some (operand.Reg (record { 0 = 0 }))) } ∷ [] }; expected = items.Word (rv.Addi 2 2 (neg_ℤ (pos 32))) ∷ items.Word (rv.Sw 2 1 (pos 0)) ∷ items.Word (rv.Addi 5 0 (pos 1)) ∷ items.Word (rv.Sw 2 5 (pos 8)) ∷ items.Word (rv.Addi 5 0 (pos 2)) ∷ items.Word (rv.Sw 2 5 (pos 16)) ∷ items.Word (rv.Addi 5 0 (pos 0)) ∷ items.Word (rv.Sw 2 5 (pos 24)) ∷ items.Word (rv.Lw 5 2 (pos 8)) ∷ items.Word (rv.Sw 2 5 (pos 4)) ∷ items.Word (rv.Lw 5 2 (pos 16)) ∷ items.Word (rv.Sw 2 5 (pos 12)) ∷ items.Word (rv.Lw 5 2 (pos 24)) ∷ items.Word (rv.Sw 2 5 (pos 20)) ∷ items.Word (rv.Lw 5 2 (pos 20)) ∷ items.Word (rv.Addi 6 0 (pos 1)) ∷ items.Word (rv.Add 5 5 6) ∷ items.Word (rv.Sw 2 5 (pos 28)) ∷ items.Word (rv.Lw 5 2 (pos 12)) ∷ items.Word (rv.Sw 2 5 (pos 8)) ∷ items.Word (rv.Lw 5 2 (pos 4)) ∷ items.Word (rv.Sw 2 5 (pos 16)) ∷ items.Word (rv.Lw 5 2 (pos 28)) ∷ items.Word (rv.Sw 2 5 (pos 24)) ∷ items.Word (rv.Lw 5 2 (pos 28)) ∷ items.Word (rv.Beq 5 0 (pos 8)) ∷ items.Word (rv.Jal 0 (pos 8)) ∷ items.Word (rv.Jal 0 (neg_ℤ (pos 76))) ∷ items.Word (rv.Lw 10 2 (pos 4)) ∷ items.Word (rv.Lw 1 2 (pos 0)) ∷ items.Word (rv.Addi 2 2 (pos 32)) ∷ items.Word (rv.Jalr 0 1 (pos 0)) ∷ [] } ∷
-    record { body = record { params = 1; regs = 2; blocks = record { phis = []; code = []; end = ends.Cond (operand.Reg (record { 0 = 0 })) (record { 0 = 1 }) (record { 0 = 2 }) } ∷ record { phis = []; code = []; end = ends.Ret (Some (operand.Word 1)) } ∷ record { phis = []; code = []; end = ends.Ret (Some (operand.Word 2)) } ∷ [] }; expected = items.Word (rv.Addi 2 2 (neg_ℤ (pos 16))) ∷ items.Word (rv.Sw 2 1 (pos 0)) ∷ items.Word (rv.Sw 2 10 (pos 4)) ∷ items.Word (rv.Lw 5 2 (pos 4)) ∷ items.Word (rv.Beq 5 0 (pos 8)) ∷ items.Word (rv.Jal 0 (pos 8)) ∷ items.Word (rv.Jal 0 (pos 20)) ∷ items.Word (rv.Addi 10 0 (pos 1)) ∷ items.Word (rv.Lw 1 2 (pos 0)) ∷ items.Word (rv.Addi 2 2 (pos 16)) ∷ items.Word (rv.Jalr 0 1 (pos 0)) ∷ items.Word (rv.Addi 10 0 (pos 2)) ∷ items.Word (rv.Lw 1 2 (pos 0)) ∷ items.Word (rv.Addi 2 2 (pos 16)) ∷ items.Word (rv.Jalr 0 1 (pos 0)) ∷ [] } ∷
-    record { body = record { params = 1; regs = 2; blocks = record { phis = []; code = []; end = ends.Cond (operand.Reg (record { 0 = 0 })) (record { 0 = 2 }) (record { 0 = 1 }) } ∷ record { phis = []; code = []; end = ends.Ret (Some (operand.Word 1)) } ∷ record { phis = []; code = []; end = ends.Ret (Some (operand.Word 2)) } ∷ [] }; expected = items.Word (rv.Addi 2 2 (neg_ℤ (pos 16))) ∷ items.Word (rv.Sw 2 1 (pos 0)) ∷ items.Word (rv.Sw 2 10 (pos 4)) ∷ items.Word (rv.Lw 5 2 (pos 4)) ∷ items.Word (rv.Beq 5 0 (pos 8)) ∷ items.Word (rv.Jal 0 (pos 20)) ∷ items.Word (rv.Addi 10 0 (pos 1)) ∷ items.Word (rv.Lw 1 2 (pos 0)) ∷ items.Word (rv.Addi 2 2 (pos 16)) ∷ items.Word (rv.Jalr 0 1 (pos 0)) ∷ items.Word (rv.Addi 10 0 (pos 2)) ∷ items.Word (rv.Lw 1 2 (pos 0)) ∷ items.Word (rv.Addi 2 2 (pos 16)) ∷ items.Word (rv.Jalr 0 1 (pos 0)) ∷ [] } ∷
+    record { body = record { params = 0; regs = 4; blocks = record { phis = []; code = []; end = ends.Br (record { 0 = 1 }) } ∷ record { phis = record { reg = (record { 0 = 0 }); entries = record { from = (record { 0 = 0 }); value = (operand.Word 1) } ∷ record { from = (record { 0 = 1 }); value = (operand.Reg (record { 0 = 1 })) } ∷ [] } ∷ record { reg = (record { 0 = 1 }); entries = record { from = (record { 0 = 0 }); value = (operand.Word 2) } ∷ record { from = (record { 0 = 1 }); value = (operand.Reg (record { 0 = 0 })) } ∷ [] } ∷ record { reg = (record { 0 = 2 }); entries = record { from = (record { 0 = 0 }); value = (operand.Word 0) } ∷ record { from = (record { 0 = 1 }); value = (operand.Reg (record { 0 = 3 })) } ∷ [] } ∷ []; code = flat.Bin (record { 0 = 3 }) op.Add W32 (operand.Reg (record { 0 = 2 })) (operand.Word 1) ∷ []; end = ends.Cond (operand.Reg (record { 0 = 3 })) (record { 0 = 2 }) (record { 0 = 1 }) } ∷ record { phis = []; code = []; end = ends.Ret (Some (operand.Reg (record { 0 = 0 }))) } ∷ [] }; expected = items.Word (rv.Addi 2 2 (neg_ℤ (pos 32))) ∷ items.Word (rv.Sw 2 1 (pos 0)) ∷ items.Word (rv.Addi 5 0 (pos 1)) ∷ items.Word (rv.Sw 2 5 (pos 8)) ∷ items.Word (rv.Addi 5 0 (pos 2)) ∷ items.Word (rv.Sw 2 5 (pos 16)) ∷ items.Word (rv.Addi 5 0 (pos 0)) ∷ items.Word (rv.Sw 2 5 (pos 24)) ∷ items.Word (rv.Lw 5 2 (pos 8)) ∷ items.Word (rv.Sw 2 5 (pos 4)) ∷ items.Word (rv.Lw 5 2 (pos 16)) ∷ items.Word (rv.Sw 2 5 (pos 12)) ∷ items.Word (rv.Lw 5 2 (pos 24)) ∷ items.Word (rv.Sw 2 5 (pos 20)) ∷ items.Word (rv.Lw 5 2 (pos 20)) ∷ items.Word (rv.Addi 6 0 (pos 1)) ∷ items.Word (rv.Add 5 5 6) ∷ items.Word (rv.Sw 2 5 (pos 28)) ∷ items.Word (rv.Lw 5 2 (pos 12)) ∷ items.Word (rv.Sw 2 5 (pos 8)) ∷ items.Word (rv.Lw 5 2 (pos 4)) ∷ items.Word (rv.Sw 2 5 (pos 16)) ∷ items.Word (rv.Lw 5 2 (pos 28)) ∷ items.Word (rv.Sw 2 5 (pos 24)) ∷ items.Word (rv.Lw 5 2 (pos 28)) ∷ items.Word (rv.Beq 5 0 (neg_ℤ (pos 68))) ∷ items.Word (rv.Lw 10 2 (pos 4)) ∷ items.Word (rv.Lw 1 2 (pos 0)) ∷ items.Word (rv.Addi 2 2 (pos 32)) ∷ items.Word (rv.Jalr 0 1 (pos 0)) ∷ [] } ∷
+    record { body = record { params = 1; regs = 2; blocks = record { phis = []; code = []; end = ends.Cond (operand.Reg (record { 0 = 0 })) (record { 0 = 1 }) (record { 0 = 2 }) } ∷ record { phis = []; code = []; end = ends.Ret (Some (operand.Word 1)) } ∷ record { phis = []; code = []; end = ends.Ret (Some (operand.Word 2)) } ∷ [] }; expected = items.Word (rv.Addi 2 2 (neg_ℤ (pos 16))) ∷ items.Word (rv.Sw 2 1 (pos 0)) ∷ items.Word (rv.Sw 2 10 (pos 4)) ∷ items.Word (rv.Lw 5 2 (pos 4)) ∷ items.Word (rv.Beq 5 0 (pos 20)) ∷ items.Word (rv.Addi 10 0 (pos 1)) ∷ items.Word (rv.Lw 1 2 (pos 0)) ∷ items.Word (rv.Addi 2 2 (pos 16)) ∷ items.Word (rv.Jalr 0 1 (pos 0)) ∷ items.Word (rv.Addi 10 0 (pos 2)) ∷ items.Word (rv.Lw 1 2 (pos 0)) ∷ items.Word (rv.Addi 2 2 (pos 16)) ∷ items.Word (rv.Jalr 0 1 (pos 0)) ∷ [] } ∷
+    record { body = record { params = 1; regs = 2; blocks = record { phis = []; code = []; end = ends.Cond (operand.Reg (record { 0 = 0 })) (record { 0 = 2 }) (record { 0 = 1 }) } ∷ record { phis = []; code = []; end = ends.Ret (Some (operand.Word 1)) } ∷ record { phis = []; code = []; end = ends.Ret (Some (operand.Word 2)) } ∷ [] }; expected = items.Word (rv.Addi 2 2 (neg_ℤ (pos 16))) ∷ items.Word (rv.Sw 2 1 (pos 0)) ∷ items.Word (rv.Sw 2 10 (pos 4)) ∷ items.Word (rv.Lw 5 2 (pos 4)) ∷ items.Word (rv.Bne 5 0 (pos 20)) ∷ items.Word (rv.Addi 10 0 (pos 1)) ∷ items.Word (rv.Lw 1 2 (pos 0)) ∷ items.Word (rv.Addi 2 2 (pos 16)) ∷ items.Word (rv.Jalr 0 1 (pos 0)) ∷ items.Word (rv.Addi 10 0 (pos 2)) ∷ items.Word (rv.Lw 1 2 (pos 0)) ∷ items.Word (rv.Addi 2 2 (pos 16)) ∷ items.Word (rv.Jalr 0 1 (pos 0)) ∷ [] } ∷
     record { body = record { params = 1; regs = 1; blocks = record { phis = []; code = []; end = ends.Br (record { 0 = 2 }) } ∷ record { phis = []; code = []; end = ends.Ret None } ∷ record { phis = []; code = []; end = ends.Br (record { 0 = 1 }) } ∷ [] }; expected = items.Word (rv.Addi 2 2 (neg_ℤ (pos 16))) ∷ items.Word (rv.Sw 2 1 (pos 0)) ∷ items.Word (rv.Sw 2 10 (pos 4)) ∷ items.Word (rv.Jal 0 (pos 16)) ∷ items.Word (rv.Lw 1 2 (pos 0)) ∷ items.Word (rv.Addi 2 2 (pos 16)) ∷ items.Word (rv.Jalr 0 1 (pos 0)) ∷ items.Word (rv.Jal 0 (neg_ℤ (pos 12))) ∷ [] } ∷
-    record { body = record { params = 1; regs = 2; blocks = record { phis = []; code = []; end = ends.Switch (operand.Reg (record { 0 = 0 })) W8 (record { word = 1; to = (record { 0 = 1 }) } ∷ record { word = 255; to = (record { 0 = 2 }) } ∷ record { word = 0; to = (record { 0 = 1 }) } ∷ []) (record { 0 = 3 }) } ∷ record { phis = []; code = []; end = ends.Br (record { 0 = 3 }) } ∷ record { phis = []; code = []; end = ends.Br (record { 0 = 3 }) } ∷ record { phis = record { reg = (record { 0 = 1 }); entries = record { from = (record { 0 = 0 }); value = (operand.Word 9) } ∷ record { from = (record { 0 = 1 }); value = (operand.Word 8) } ∷ record { from = (record { 0 = 2 }); value = (operand.Word 7) } ∷ [] } ∷ []; code = []; end = ends.Ret (Some (operand.Reg (record { 0 = 1 }))) } ∷ [] }; expected = items.Word (rv.Addi 2 2 (neg_ℤ (pos 16))) ∷ items.Word (rv.Sw 2 1 (pos 0)) ∷ items.Word (rv.Sw 2 10 (pos 4)) ∷ items.Word (rv.Addi 5 0 (pos 9)) ∷ items.Word (rv.Sw 2 5 (pos 12)) ∷ items.Word (rv.Lw 5 2 (pos 4)) ∷ items.Word (rv.Addi 6 0 (pos 1)) ∷ items.Word (rv.Bne 5 6 (pos 8)) ∷ items.Word (rv.Jal 0 (pos 32)) ∷ items.Word (rv.Addi 6 0 (pos 255)) ∷ items.Word (rv.Bne 5 6 (pos 8)) ∷ items.Word (rv.Jal 0 (pos 32)) ∷ items.Word (rv.Addi 6 0 (pos 0)) ∷ items.Word (rv.Bne 5 6 (pos 8)) ∷ items.Word (rv.Jal 0 (pos 8)) ∷ items.Word (rv.Jal 0 (pos 24)) ∷ items.Word (rv.Addi 5 0 (pos 8)) ∷ items.Word (rv.Sw 2 5 (pos 12)) ∷ items.Word (rv.Jal 0 (pos 12)) ∷ items.Word (rv.Addi 5 0 (pos 7)) ∷ items.Word (rv.Sw 2 5 (pos 12)) ∷ items.Word (rv.Lw 5 2 (pos 12)) ∷ items.Word (rv.Sw 2 5 (pos 8)) ∷ items.Word (rv.Lw 10 2 (pos 8)) ∷ items.Word (rv.Lw 1 2 (pos 0)) ∷ items.Word (rv.Addi 2 2 (pos 16)) ∷ items.Word (rv.Jalr 0 1 (pos 0)) ∷ [] } ∷
+    record { body = record { params = 1; regs = 2; blocks = record { phis = []; code = []; end = ends.Switch (operand.Reg (record { 0 = 0 })) W8 (record { word = 1; to = (record { 0 = 1 }) } ∷ record { word = 255; to = (record { 0 = 2 }) } ∷ record { word = 0; to = (record { 0 = 1 }) } ∷ []) (record { 0 = 3 }) } ∷ record { phis = []; code = []; end = ends.Br (record { 0 = 3 }) } ∷ record { phis = []; code = []; end = ends.Br (record { 0 = 3 }) } ∷ record { phis = record { reg = (record { 0 = 1 }); entries = record { from = (record { 0 = 0 }); value = (operand.Word 9) } ∷ record { from = (record { 0 = 1 }); value = (operand.Word 8) } ∷ record { from = (record { 0 = 2 }); value = (operand.Word 7) } ∷ [] } ∷ []; code = []; end = ends.Ret (Some (operand.Reg (record { 0 = 1 }))) } ∷ [] }; expected = items.Word (rv.Addi 2 2 (neg_ℤ (pos 16))) ∷ items.Word (rv.Sw 2 1 (pos 0)) ∷ items.Word (rv.Sw 2 10 (pos 4)) ∷ items.Word (rv.Addi 5 0 (pos 9)) ∷ items.Word (rv.Sw 2 5 (pos 12)) ∷ items.Word (rv.Lw 5 2 (pos 4)) ∷ items.Word (rv.Addi 6 0 (pos 1)) ∷ items.Word (rv.Beq 5 6 (pos 24)) ∷ items.Word (rv.Addi 6 0 (pos 255)) ∷ items.Word (rv.Beq 5 6 (pos 28)) ∷ items.Word (rv.Addi 6 0 (pos 0)) ∷ items.Word (rv.Beq 5 6 (pos 8)) ∷ items.Word (rv.Jal 0 (pos 24)) ∷ items.Word (rv.Addi 5 0 (pos 8)) ∷ items.Word (rv.Sw 2 5 (pos 12)) ∷ items.Word (rv.Jal 0 (pos 12)) ∷ items.Word (rv.Addi 5 0 (pos 7)) ∷ items.Word (rv.Sw 2 5 (pos 12)) ∷ items.Word (rv.Lw 5 2 (pos 12)) ∷ items.Word (rv.Sw 2 5 (pos 8)) ∷ items.Word (rv.Lw 10 2 (pos 8)) ∷ items.Word (rv.Lw 1 2 (pos 0)) ∷ items.Word (rv.Addi 2 2 (pos 16)) ∷ items.Word (rv.Jalr 0 1 (pos 0)) ∷ [] } ∷
     record { body = record { params = 1; regs = 2; blocks = record { phis = []; code = []; end = ends.Switch (operand.Reg (record { 0 = 0 })) W32 ([]) (record { 0 = 1 }) } ∷ record { phis = []; code = []; end = ends.Ret None } ∷ [] }; expected = items.Word (rv.Addi 2 2 (neg_ℤ (pos 16))) ∷ items.Word (rv.Sw 2 1 (pos 0)) ∷ items.Word (rv.Sw 2 10 (pos 4)) ∷ items.Word (rv.Lw 5 2 (pos 4)) ∷ items.Word (rv.Lw 1 2 (pos 0)) ∷ items.Word (rv.Addi 2 2 (pos 16)) ∷ items.Word (rv.Jalr 0 1 (pos 0)) ∷ [] } ∷
-    record { body = record { params = 1; regs = 3; blocks = record { phis = []; code = []; end = ends.Switch (operand.Reg (record { 0 = 0 })) W32 (record { word = 4096; to = (record { 0 = 1 }) } ∷ record { word = 5; to = (record { 0 = 2 }) } ∷ record { word = 4294967295; to = (record { 0 = 1 }) } ∷ []) (record { 0 = 2 }) } ∷ record { phis = record { reg = (record { 0 = 1 }); entries = record { from = (record { 0 = 0 }); value = (operand.Reg (record { 0 = 0 })) } ∷ [] } ∷ []; code = []; end = ends.Ret (Some (operand.Reg (record { 0 = 1 }))) } ∷ record { phis = record { reg = (record { 0 = 2 }); entries = record { from = (record { 0 = 0 }); value = (operand.Word 4) } ∷ [] } ∷ []; code = []; end = ends.Ret (Some (operand.Reg (record { 0 = 2 }))) } ∷ [] }; expected = items.Word (rv.Addi 2 2 (neg_ℤ (pos 32))) ∷ items.Word (rv.Sw 2 1 (pos 0)) ∷ items.Word (rv.Sw 2 10 (pos 4)) ∷ items.Word (rv.Lw 5 2 (pos 4)) ∷ items.Word (rv.Sw 2 5 (pos 12)) ∷ items.Word (rv.Addi 5 0 (pos 4)) ∷ items.Word (rv.Sw 2 5 (pos 20)) ∷ items.Word (rv.Lw 5 2 (pos 4)) ∷ items.Word (rv.Lui 6 (pos 1)) ∷ items.Word (rv.Bne 5 6 (pos 8)) ∷ items.Word (rv.Jal 0 (pos 32)) ∷ items.Word (rv.Addi 6 0 (pos 5)) ∷ items.Word (rv.Bne 5 6 (pos 8)) ∷ items.Word (rv.Jal 0 (pos 44)) ∷ items.Word (rv.Addi 6 0 (neg_ℤ (pos 1))) ∷ items.Word (rv.Bne 5 6 (pos 8)) ∷ items.Word (rv.Jal 0 (pos 8)) ∷ items.Word (rv.Jal 0 (pos 28)) ∷ items.Word (rv.Lw 5 2 (pos 12)) ∷ items.Word (rv.Sw 2 5 (pos 8)) ∷ items.Word (rv.Lw 10 2 (pos 8)) ∷ items.Word (rv.Lw 1 2 (pos 0)) ∷ items.Word (rv.Addi 2 2 (pos 32)) ∷ items.Word (rv.Jalr 0 1 (pos 0)) ∷ items.Word (rv.Lw 5 2 (pos 20)) ∷ items.Word (rv.Sw 2 5 (pos 16)) ∷ items.Word (rv.Lw 10 2 (pos 16)) ∷ items.Word (rv.Lw 1 2 (pos 0)) ∷ items.Word (rv.Addi 2 2 (pos 32)) ∷ items.Word (rv.Jalr 0 1 (pos 0)) ∷ [] } ∷
-    record { body = record { params = 1; regs = 3; blocks = record { phis = []; code = []; end = ends.Cond (operand.Reg (record { 0 = 0 })) (record { 0 = 1 }) (record { 0 = 1 }) } ∷ record { phis = record { reg = (record { 0 = 1 }); entries = record { from = (record { 0 = 0 }); value = (operand.Word 5) } ∷ record { from = (record { 0 = 0 }); value = (operand.Word 5) } ∷ [] } ∷ record { reg = (record { 0 = 2 }); entries = record { from = (record { 0 = 0 }); value = (operand.Word 6) } ∷ record { from = (record { 0 = 0 }); value = (operand.Word 6) } ∷ [] } ∷ []; code = []; end = ends.Br (record { 0 = 2 }) } ∷ record { phis = []; code = []; end = ends.Br (record { 0 = 2 }) } ∷ [] }; expected = items.Word (rv.Addi 2 2 (neg_ℤ (pos 32))) ∷ items.Word (rv.Sw 2 1 (pos 0)) ∷ items.Word (rv.Sw 2 10 (pos 4)) ∷ items.Word (rv.Addi 5 0 (pos 5)) ∷ items.Word (rv.Sw 2 5 (pos 12)) ∷ items.Word (rv.Addi 5 0 (pos 6)) ∷ items.Word (rv.Sw 2 5 (pos 20)) ∷ items.Word (rv.Lw 5 2 (pos 4)) ∷ items.Word (rv.Beq 5 0 (pos 8)) ∷ items.Word (rv.Jal 0 (pos 4)) ∷ items.Word (rv.Lw 5 2 (pos 12)) ∷ items.Word (rv.Sw 2 5 (pos 8)) ∷ items.Word (rv.Lw 5 2 (pos 20)) ∷ items.Word (rv.Sw 2 5 (pos 16)) ∷ items.Word (rv.Jal 0 (pos 0)) ∷ [] } ∷
+    record { body = record { params = 1; regs = 3; blocks = record { phis = []; code = []; end = ends.Switch (operand.Reg (record { 0 = 0 })) W32 (record { word = 4096; to = (record { 0 = 1 }) } ∷ record { word = 5; to = (record { 0 = 2 }) } ∷ record { word = 4294967295; to = (record { 0 = 1 }) } ∷ []) (record { 0 = 2 }) } ∷ record { phis = record { reg = (record { 0 = 1 }); entries = record { from = (record { 0 = 0 }); value = (operand.Reg (record { 0 = 0 })) } ∷ [] } ∷ []; code = []; end = ends.Ret (Some (operand.Reg (record { 0 = 1 }))) } ∷ record { phis = record { reg = (record { 0 = 2 }); entries = record { from = (record { 0 = 0 }); value = (operand.Word 4) } ∷ [] } ∷ []; code = []; end = ends.Ret (Some (operand.Reg (record { 0 = 2 }))) } ∷ [] }; expected = items.Word (rv.Addi 2 2 (neg_ℤ (pos 32))) ∷ items.Word (rv.Sw 2 1 (pos 0)) ∷ items.Word (rv.Sw 2 10 (pos 4)) ∷ items.Word (rv.Lw 5 2 (pos 4)) ∷ items.Word (rv.Sw 2 5 (pos 12)) ∷ items.Word (rv.Addi 5 0 (pos 4)) ∷ items.Word (rv.Sw 2 5 (pos 20)) ∷ items.Word (rv.Lw 5 2 (pos 4)) ∷ items.Word (rv.Lui 6 (pos 1)) ∷ items.Word (rv.Beq 5 6 (pos 24)) ∷ items.Word (rv.Addi 6 0 (pos 5)) ∷ items.Word (rv.Beq 5 6 (pos 40)) ∷ items.Word (rv.Addi 6 0 (neg_ℤ (pos 1))) ∷ items.Word (rv.Beq 5 6 (pos 8)) ∷ items.Word (rv.Jal 0 (pos 28)) ∷ items.Word (rv.Lw 5 2 (pos 12)) ∷ items.Word (rv.Sw 2 5 (pos 8)) ∷ items.Word (rv.Lw 10 2 (pos 8)) ∷ items.Word (rv.Lw 1 2 (pos 0)) ∷ items.Word (rv.Addi 2 2 (pos 32)) ∷ items.Word (rv.Jalr 0 1 (pos 0)) ∷ items.Word (rv.Lw 5 2 (pos 20)) ∷ items.Word (rv.Sw 2 5 (pos 16)) ∷ items.Word (rv.Lw 10 2 (pos 16)) ∷ items.Word (rv.Lw 1 2 (pos 0)) ∷ items.Word (rv.Addi 2 2 (pos 32)) ∷ items.Word (rv.Jalr 0 1 (pos 0)) ∷ [] } ∷
+    record { body = record { params = 1; regs = 3; blocks = record { phis = []; code = []; end = ends.Cond (operand.Reg (record { 0 = 0 })) (record { 0 = 1 }) (record { 0 = 1 }) } ∷ record { phis = record { reg = (record { 0 = 1 }); entries = record { from = (record { 0 = 0 }); value = (operand.Word 5) } ∷ record { from = (record { 0 = 0 }); value = (operand.Word 5) } ∷ [] } ∷ record { reg = (record { 0 = 2 }); entries = record { from = (record { 0 = 0 }); value = (operand.Word 6) } ∷ record { from = (record { 0 = 0 }); value = (operand.Word 6) } ∷ [] } ∷ []; code = []; end = ends.Br (record { 0 = 2 }) } ∷ record { phis = []; code = []; end = ends.Br (record { 0 = 2 }) } ∷ [] }; expected = items.Word (rv.Addi 2 2 (neg_ℤ (pos 32))) ∷ items.Word (rv.Sw 2 1 (pos 0)) ∷ items.Word (rv.Sw 2 10 (pos 4)) ∷ items.Word (rv.Addi 5 0 (pos 5)) ∷ items.Word (rv.Sw 2 5 (pos 12)) ∷ items.Word (rv.Addi 5 0 (pos 6)) ∷ items.Word (rv.Sw 2 5 (pos 20)) ∷ items.Word (rv.Lw 5 2 (pos 4)) ∷ items.Word (rv.Beq 5 0 (pos 4)) ∷ items.Word (rv.Lw 5 2 (pos 12)) ∷ items.Word (rv.Sw 2 5 (pos 8)) ∷ items.Word (rv.Lw 5 2 (pos 20)) ∷ items.Word (rv.Sw 2 5 (pos 16)) ∷ items.Word (rv.Jal 0 (pos 0)) ∷ [] } ∷
     []
 
 abbrev pub far_homes : List WorkedFar
@@ -255,14 +255,14 @@ far_homes =
     record { frame = record { bytes = 65536; homes = home.InMemory 2047 ∷ home.InSlot 2048 ∷ home.InSlot 4096 ∷ [] }; body = record { params = 0; regs = 3; blocks = record { phis = []; code = flat.Alloca (record { 0 = 0 }) 65000 8 ∷ flat.Get (Some (record { 0 = 1 })) ∷ flat.Put (Some (record { 0 = 2 })) (operand.Reg (record { 0 = 1 })) ∷ []; end = ends.Ret (Some (operand.Reg (record { 0 = 2 }))) } ∷ [] }; expected = items.Word (rv.Lui 5 (pos 16)) ∷ items.Word (rv.Addi 5 5 (pos 0)) ∷ items.Word (rv.Sub 2 2 5) ∷ items.Word (rv.Sw 2 1 (pos 0)) ∷ items.Word (rv.Addi 17 0 (pos 2)) ∷ items.Word rv.Ecall ∷ items.Word (rv.Lui 7 (pos 1)) ∷ items.Word (rv.Add 7 7 2) ∷ items.Word (rv.Sw 7 10 (neg_ℤ (pos 2048))) ∷ items.Word (rv.Lui 10 (pos 1)) ∷ items.Word (rv.Add 10 10 2) ∷ items.Word (rv.Lw 10 10 (neg_ℤ (pos 2048))) ∷ items.Word (rv.Addi 17 0 (pos 1)) ∷ items.Word rv.Ecall ∷ items.Word (rv.Lui 7 (pos 1)) ∷ items.Word (rv.Add 7 7 2) ∷ items.Word (rv.Sw 7 10 (pos 0)) ∷ items.Word (rv.Lui 10 (pos 1)) ∷ items.Word (rv.Add 10 10 2) ∷ items.Word (rv.Lw 10 10 (pos 0)) ∷ items.Word (rv.Lw 1 2 (pos 0)) ∷ items.Word (rv.Lui 5 (pos 16)) ∷ items.Word (rv.Addi 5 5 (pos 0)) ∷ items.Word (rv.Add 2 2 5) ∷ items.Word (rv.Jalr 0 1 (pos 0)) ∷ [] } ∷
     record { frame = record { bytes = 65536; homes = home.InSlot 2044 ∷ home.InSlot 2048 ∷ home.InSlot 4096 ∷ home.InSlot 6140 ∷ home.InSlot 2052 ∷ [] }; body = record { params = 2; regs = 5; blocks = record { phis = []; code = flat.Gep (record { 0 = 2 }) (operand.Reg (record { 0 = 0 })) 0 ([]) ∷ flat.Gep (record { 0 = 3 }) (operand.Reg (record { 0 = 0 })) 8 (record { operand = (operand.Reg (record { 0 = 1 })); width = W32; stride = 4 } ∷ record { operand = (operand.Word 3); width = W8; stride = 1 } ∷ []) ∷ flat.Gep (record { 0 = 4 }) (operand.Address 1 0) 4294967292 (record { operand = (operand.Reg (record { 0 = 1 })); width = W16; stride = 5000 } ∷ record { operand = (operand.Reg (record { 0 = 1 })); width = W1; stride = 1 } ∷ []) ∷ []; end = ends.Ret (Some (operand.Reg (record { 0 = 4 }))) } ∷ [] }; expected = items.Word (rv.Lui 5 (pos 16)) ∷ items.Word (rv.Addi 5 5 (pos 0)) ∷ items.Word (rv.Sub 2 2 5) ∷ items.Word (rv.Sw 2 1 (pos 0)) ∷ items.Word (rv.Sw 2 10 (pos 2044)) ∷ items.Word (rv.Lui 7 (pos 1)) ∷ items.Word (rv.Add 7 7 2) ∷ items.Word (rv.Sw 7 11 (neg_ℤ (pos 2048))) ∷ items.Word (rv.Lw 5 2 (pos 2044)) ∷ items.Word (rv.Lui 7 (pos 1)) ∷ items.Word (rv.Add 7 7 2) ∷ items.Word (rv.Sw 7 5 (pos 0)) ∷ items.Word (rv.Lw 5 2 (pos 2044)) ∷ items.Word (rv.Lui 6 (pos 1)) ∷ items.Word (rv.Add 6 6 2) ∷ items.Word (rv.Lw 6 6 (neg_ℤ (pos 2048))) ∷ items.Word (rv.Addi 7 0 (pos 4)) ∷ items.Word (rv.Mul 6 6 7) ∷ items.Word (rv.Add 5 5 6) ∷ items.Word (rv.Addi 6 0 (pos 3)) ∷ items.Word (rv.Slli 6 6 (pos 24)) ∷ items.Word (rv.Srai 6 6 (pos 24)) ∷ items.Word (rv.Add 5 5 6) ∷ items.Word (rv.Addi 6 0 (pos 8)) ∷ items.Word (rv.Add 5 5 6) ∷ items.Word (rv.Lui 7 (pos 1)) ∷ items.Word (rv.Add 7 7 2) ∷ items.Word (rv.Sw 7 5 (pos 2044)) ∷ items.AddressHigh 5 1 0 ∷ items.AddressLow 5 1 0 ∷ items.Word (rv.Lui 6 (pos 1)) ∷ items.Word (rv.Add 6 6 2) ∷ items.Word (rv.Lw 6 6 (neg_ℤ (pos 2048))) ∷ items.Word (rv.Slli 6 6 (pos 16)) ∷ items.Word (rv.Srai 6 6 (pos 16)) ∷ items.Word (rv.Lui 7 (pos 1)) ∷ items.Word (rv.Addi 7 7 (pos 904)) ∷ items.Word (rv.Mul 6 6 7) ∷ items.Word (rv.Add 5 5 6) ∷ items.Word (rv.Lui 6 (pos 1)) ∷ items.Word (rv.Add 6 6 2) ∷ items.Word (rv.Lw 6 6 (neg_ℤ (pos 2048))) ∷ items.Word (rv.Slli 6 6 (pos 31)) ∷ items.Word (rv.Srai 6 6 (pos 31)) ∷ items.Word (rv.Add 5 5 6) ∷ items.Word (rv.Addi 6 0 (neg_ℤ (pos 4))) ∷ items.Word (rv.Add 5 5 6) ∷ items.Word (rv.Lui 7 (pos 1)) ∷ items.Word (rv.Add 7 7 2) ∷ items.Word (rv.Sw 7 5 (neg_ℤ (pos 2044))) ∷ items.Word (rv.Lui 10 (pos 1)) ∷ items.Word (rv.Add 10 10 2) ∷ items.Word (rv.Lw 10 10 (neg_ℤ (pos 2044))) ∷ items.Word (rv.Lw 1 2 (pos 0)) ∷ items.Word (rv.Lui 5 (pos 16)) ∷ items.Word (rv.Addi 5 5 (pos 0)) ∷ items.Word (rv.Add 2 2 5) ∷ items.Word (rv.Jalr 0 1 (pos 0)) ∷ [] } ∷
     record { frame = record { bytes = 65536; homes = home.InSlot 2044 ∷ home.InSlot 2048 ∷ home.InSlot 4096 ∷ [] }; body = record { params = 1; regs = 3; blocks = record { phis = []; code = flat.Call (Some (record { 0 = 1 })) (record { 0 = 2 }) ((operand.Reg (record { 0 = 0 })) ∷ (operand.Word 5) ∷ (operand.Address 0 4) ∷ []) ∷ flat.Call None (record { 0 = 0 }) ([]) ∷ flat.Call (Some (record { 0 = 2 })) (record { 0 = 1 }) ((operand.Reg (record { 0 = 1 })) ∷ (operand.Reg (record { 0 = 1 })) ∷ (operand.Reg (record { 0 = 1 })) ∷ (operand.Reg (record { 0 = 1 })) ∷ operand.Null ∷ operand.Poison ∷ (operand.Word 4096) ∷ (operand.Word 1) ∷ []) ∷ []; end = ends.Ret (Some (operand.Reg (record { 0 = 2 }))) } ∷ [] }; expected = items.Word (rv.Lui 5 (pos 16)) ∷ items.Word (rv.Addi 5 5 (pos 0)) ∷ items.Word (rv.Sub 2 2 5) ∷ items.Word (rv.Sw 2 1 (pos 0)) ∷ items.Word (rv.Sw 2 10 (pos 2044)) ∷ items.Word (rv.Lw 10 2 (pos 2044)) ∷ items.Word (rv.Addi 11 0 (pos 5)) ∷ items.AddressHigh 12 0 4 ∷ items.AddressLow 12 0 4 ∷ items.CallHigh (record { 0 = 2 }) ∷ items.CallLow (record { 0 = 2 }) ∷ items.Word (rv.Lui 7 (pos 1)) ∷ items.Word (rv.Add 7 7 2) ∷ items.Word (rv.Sw 7 10 (neg_ℤ (pos 2048))) ∷ items.CallHigh (record { 0 = 0 }) ∷ items.CallLow (record { 0 = 0 }) ∷ items.Word (rv.Lui 10 (pos 1)) ∷ items.Word (rv.Add 10 10 2) ∷ items.Word (rv.Lw 10 10 (neg_ℤ (pos 2048))) ∷ items.Word (rv.Lui 11 (pos 1)) ∷ items.Word (rv.Add 11 11 2) ∷ items.Word (rv.Lw 11 11 (neg_ℤ (pos 2048))) ∷ items.Word (rv.Lui 12 (pos 1)) ∷ items.Word (rv.Add 12 12 2) ∷ items.Word (rv.Lw 12 12 (neg_ℤ (pos 2048))) ∷ items.Word (rv.Lui 13 (pos 1)) ∷ items.Word (rv.Add 13 13 2) ∷ items.Word (rv.Lw 13 13 (neg_ℤ (pos 2048))) ∷ items.Word (rv.Addi 14 0 (pos 0)) ∷ items.Word (rv.Addi 15 0 (pos 0)) ∷ items.Word (rv.Lui 16 (pos 1)) ∷ items.Word (rv.Addi 17 0 (pos 1)) ∷ items.CallHigh (record { 0 = 1 }) ∷ items.CallLow (record { 0 = 1 }) ∷ items.Word (rv.Lui 7 (pos 1)) ∷ items.Word (rv.Add 7 7 2) ∷ items.Word (rv.Sw 7 10 (pos 0)) ∷ items.Word (rv.Lui 10 (pos 1)) ∷ items.Word (rv.Add 10 10 2) ∷ items.Word (rv.Lw 10 10 (pos 0)) ∷ items.Word (rv.Lw 1 2 (pos 0)) ∷ items.Word (rv.Lui 5 (pos 16)) ∷ items.Word (rv.Addi 5 5 (pos 0)) ∷ items.Word (rv.Add 2 2 5) ∷ items.Word (rv.Jalr 0 1 (pos 0)) ∷ [] } ∷
-    record { frame = record { bytes = 65536; homes = home.OfPhi 2044 ∷ home.OfPhi 2048 ∷ home.OfPhi 4096 ∷ home.InSlot 6140 ∷ [] }; body = record { params = 0; regs = 4; blocks = record { phis = []; code = []; end = ends.Br (record { 0 = 1 }) } ∷ record { phis = record { reg = (record { 0 = 0 }); entries = record { from = (record { 0 = 0 }); value = (operand.Word 1) } ∷ record { from = (record { 0 = 1 }); value = (operand.Reg (record { 0 = 1 })) } ∷ [] } ∷ record { reg = (record { 0 = 1 }); entries = record { from = (record { 0 = 0 }); value = (operand.Word 2) } ∷ record { from = (record { 0 = 1 }); value = (operand.Reg (record { 0 = 0 })) } ∷ [] } ∷ record { reg = (record { 0 = 2 }); entries = record { from = (record { 0 = 0 }); value = (operand.Word 0) } ∷ record { from = (record { 0 = 1 }); value = (operand.Reg (record { 0 = 3 })) } ∷ [] } ∷ []; code = flat.Bin (record { 0 = 3 }) op.Add W32 (operand.Reg (record { 0 = 2 })) (operand.Word 1) ∷ []; end = ends.Cond (operand.Reg (record { 0 = 3 })) (record { 0 = 2 }) (record { 0 = 1 }) } ∷ record { phis = []; code = []; end = ends.Ret (Some (operand.Reg (record { 0 = 0 }))) } ∷ [] }; expected = items.Word (rv.Lui 5 (pos 16)) ∷ items.Word (rv.Addi 5 5 (pos 0)) ∷ items.Word (rv.Sub 2 2 5) ∷ items.Word (rv.Sw 2 1 (pos 0)) ∷ items.Word (rv.Addi 5 0 (pos 1)) ∷ items.Word (rv.Lui 7 (pos 1)) ∷ items.Word (rv.Add 7 7 2) ∷ items.Word (rv.Sw 7 5 (neg_ℤ (pos 2048))) ∷ items.Word (rv.Addi 5 0 (pos 2)) ∷ items.Word (rv.Lui 7 (pos 1)) ∷ items.Word (rv.Add 7 7 2) ∷ items.Word (rv.Sw 7 5 (neg_ℤ (pos 2044))) ∷ items.Word (rv.Addi 5 0 (pos 0)) ∷ items.Word (rv.Lui 7 (pos 1)) ∷ items.Word (rv.Add 7 7 2) ∷ items.Word (rv.Sw 7 5 (pos 4)) ∷ items.Word (rv.Lui 5 (pos 1)) ∷ items.Word (rv.Add 5 5 2) ∷ items.Word (rv.Lw 5 5 (neg_ℤ (pos 2048))) ∷ items.Word (rv.Sw 2 5 (pos 2044)) ∷ items.Word (rv.Lui 5 (pos 1)) ∷ items.Word (rv.Add 5 5 2) ∷ items.Word (rv.Lw 5 5 (neg_ℤ (pos 2044))) ∷ items.Word (rv.Lui 7 (pos 1)) ∷ items.Word (rv.Add 7 7 2) ∷ items.Word (rv.Sw 7 5 (neg_ℤ (pos 2048))) ∷ items.Word (rv.Lui 5 (pos 1)) ∷ items.Word (rv.Add 5 5 2) ∷ items.Word (rv.Lw 5 5 (pos 4)) ∷ items.Word (rv.Lui 7 (pos 1)) ∷ items.Word (rv.Add 7 7 2) ∷ items.Word (rv.Sw 7 5 (pos 0)) ∷ items.Word (rv.Lui 5 (pos 1)) ∷ items.Word (rv.Add 5 5 2) ∷ items.Word (rv.Lw 5 5 (pos 0)) ∷ items.Word (rv.Addi 6 0 (pos 1)) ∷ items.Word (rv.Add 5 5 6) ∷ items.Word (rv.Lui 7 (pos 1)) ∷ items.Word (rv.Add 7 7 2) ∷ items.Word (rv.Sw 7 5 (pos 2044)) ∷ items.Word (rv.Lui 5 (pos 1)) ∷ items.Word (rv.Add 5 5 2) ∷ items.Word (rv.Lw 5 5 (neg_ℤ (pos 2048))) ∷ items.Word (rv.Lui 7 (pos 1)) ∷ items.Word (rv.Add 7 7 2) ∷ items.Word (rv.Sw 7 5 (neg_ℤ (pos 2048))) ∷ items.Word (rv.Lw 5 2 (pos 2044)) ∷ items.Word (rv.Lui 7 (pos 1)) ∷ items.Word (rv.Add 7 7 2) ∷ items.Word (rv.Sw 7 5 (neg_ℤ (pos 2044))) ∷ items.Word (rv.Lui 5 (pos 1)) ∷ items.Word (rv.Add 5 5 2) ∷ items.Word (rv.Lw 5 5 (pos 2044)) ∷ items.Word (rv.Lui 7 (pos 1)) ∷ items.Word (rv.Add 7 7 2) ∷ items.Word (rv.Sw 7 5 (pos 4)) ∷ items.Word (rv.Lui 5 (pos 1)) ∷ items.Word (rv.Add 5 5 2) ∷ items.Word (rv.Lw 5 5 (pos 2044)) ∷ items.Word (rv.Beq 5 0 (pos 8)) ∷ items.Word (rv.Jal 0 (pos 8)) ∷ items.Word (rv.Jal 0 (neg_ℤ (pos 180))) ∷ items.Word (rv.Lw 10 2 (pos 2044)) ∷ items.Word (rv.Lw 1 2 (pos 0)) ∷ items.Word (rv.Lui 5 (pos 16)) ∷ items.Word (rv.Addi 5 5 (pos 0)) ∷ items.Word (rv.Add 2 2 5) ∷ items.Word (rv.Jalr 0 1 (pos 0)) ∷ [] } ∷
-    record { frame = record { bytes = 65536; homes = home.InSlot 2044 ∷ home.InSlot 2048 ∷ [] }; body = record { params = 1; regs = 2; blocks = record { phis = []; code = []; end = ends.Cond (operand.Reg (record { 0 = 0 })) (record { 0 = 1 }) (record { 0 = 2 }) } ∷ record { phis = []; code = []; end = ends.Ret (Some (operand.Word 1)) } ∷ record { phis = []; code = []; end = ends.Ret (Some (operand.Word 2)) } ∷ [] }; expected = items.Word (rv.Lui 5 (pos 16)) ∷ items.Word (rv.Addi 5 5 (pos 0)) ∷ items.Word (rv.Sub 2 2 5) ∷ items.Word (rv.Sw 2 1 (pos 0)) ∷ items.Word (rv.Sw 2 10 (pos 2044)) ∷ items.Word (rv.Lw 5 2 (pos 2044)) ∷ items.Word (rv.Beq 5 0 (pos 8)) ∷ items.Word (rv.Jal 0 (pos 8)) ∷ items.Word (rv.Jal 0 (pos 28)) ∷ items.Word (rv.Addi 10 0 (pos 1)) ∷ items.Word (rv.Lw 1 2 (pos 0)) ∷ items.Word (rv.Lui 5 (pos 16)) ∷ items.Word (rv.Addi 5 5 (pos 0)) ∷ items.Word (rv.Add 2 2 5) ∷ items.Word (rv.Jalr 0 1 (pos 0)) ∷ items.Word (rv.Addi 10 0 (pos 2)) ∷ items.Word (rv.Lw 1 2 (pos 0)) ∷ items.Word (rv.Lui 5 (pos 16)) ∷ items.Word (rv.Addi 5 5 (pos 0)) ∷ items.Word (rv.Add 2 2 5) ∷ items.Word (rv.Jalr 0 1 (pos 0)) ∷ [] } ∷
-    record { frame = record { bytes = 65536; homes = home.InSlot 2044 ∷ home.InSlot 2048 ∷ [] }; body = record { params = 1; regs = 2; blocks = record { phis = []; code = []; end = ends.Cond (operand.Reg (record { 0 = 0 })) (record { 0 = 2 }) (record { 0 = 1 }) } ∷ record { phis = []; code = []; end = ends.Ret (Some (operand.Word 1)) } ∷ record { phis = []; code = []; end = ends.Ret (Some (operand.Word 2)) } ∷ [] }; expected = items.Word (rv.Lui 5 (pos 16)) ∷ items.Word (rv.Addi 5 5 (pos 0)) ∷ items.Word (rv.Sub 2 2 5) ∷ items.Word (rv.Sw 2 1 (pos 0)) ∷ items.Word (rv.Sw 2 10 (pos 2044)) ∷ items.Word (rv.Lw 5 2 (pos 2044)) ∷ items.Word (rv.Beq 5 0 (pos 8)) ∷ items.Word (rv.Jal 0 (pos 28)) ∷ items.Word (rv.Addi 10 0 (pos 1)) ∷ items.Word (rv.Lw 1 2 (pos 0)) ∷ items.Word (rv.Lui 5 (pos 16)) ∷ items.Word (rv.Addi 5 5 (pos 0)) ∷ items.Word (rv.Add 2 2 5) ∷ items.Word (rv.Jalr 0 1 (pos 0)) ∷ items.Word (rv.Addi 10 0 (pos 2)) ∷ items.Word (rv.Lw 1 2 (pos 0)) ∷ items.Word (rv.Lui 5 (pos 16)) ∷ items.Word (rv.Addi 5 5 (pos 0)) ∷ items.Word (rv.Add 2 2 5) ∷ items.Word (rv.Jalr 0 1 (pos 0)) ∷ [] } ∷
+    record { frame = record { bytes = 65536; homes = home.OfPhi 2044 ∷ home.OfPhi 2048 ∷ home.OfPhi 4096 ∷ home.InSlot 6140 ∷ [] }; body = record { params = 0; regs = 4; blocks = record { phis = []; code = []; end = ends.Br (record { 0 = 1 }) } ∷ record { phis = record { reg = (record { 0 = 0 }); entries = record { from = (record { 0 = 0 }); value = (operand.Word 1) } ∷ record { from = (record { 0 = 1 }); value = (operand.Reg (record { 0 = 1 })) } ∷ [] } ∷ record { reg = (record { 0 = 1 }); entries = record { from = (record { 0 = 0 }); value = (operand.Word 2) } ∷ record { from = (record { 0 = 1 }); value = (operand.Reg (record { 0 = 0 })) } ∷ [] } ∷ record { reg = (record { 0 = 2 }); entries = record { from = (record { 0 = 0 }); value = (operand.Word 0) } ∷ record { from = (record { 0 = 1 }); value = (operand.Reg (record { 0 = 3 })) } ∷ [] } ∷ []; code = flat.Bin (record { 0 = 3 }) op.Add W32 (operand.Reg (record { 0 = 2 })) (operand.Word 1) ∷ []; end = ends.Cond (operand.Reg (record { 0 = 3 })) (record { 0 = 2 }) (record { 0 = 1 }) } ∷ record { phis = []; code = []; end = ends.Ret (Some (operand.Reg (record { 0 = 0 }))) } ∷ [] }; expected = items.Word (rv.Lui 5 (pos 16)) ∷ items.Word (rv.Addi 5 5 (pos 0)) ∷ items.Word (rv.Sub 2 2 5) ∷ items.Word (rv.Sw 2 1 (pos 0)) ∷ items.Word (rv.Addi 5 0 (pos 1)) ∷ items.Word (rv.Lui 7 (pos 1)) ∷ items.Word (rv.Add 7 7 2) ∷ items.Word (rv.Sw 7 5 (neg_ℤ (pos 2048))) ∷ items.Word (rv.Addi 5 0 (pos 2)) ∷ items.Word (rv.Lui 7 (pos 1)) ∷ items.Word (rv.Add 7 7 2) ∷ items.Word (rv.Sw 7 5 (neg_ℤ (pos 2044))) ∷ items.Word (rv.Addi 5 0 (pos 0)) ∷ items.Word (rv.Lui 7 (pos 1)) ∷ items.Word (rv.Add 7 7 2) ∷ items.Word (rv.Sw 7 5 (pos 4)) ∷ items.Word (rv.Lui 5 (pos 1)) ∷ items.Word (rv.Add 5 5 2) ∷ items.Word (rv.Lw 5 5 (neg_ℤ (pos 2048))) ∷ items.Word (rv.Sw 2 5 (pos 2044)) ∷ items.Word (rv.Lui 5 (pos 1)) ∷ items.Word (rv.Add 5 5 2) ∷ items.Word (rv.Lw 5 5 (neg_ℤ (pos 2044))) ∷ items.Word (rv.Lui 7 (pos 1)) ∷ items.Word (rv.Add 7 7 2) ∷ items.Word (rv.Sw 7 5 (neg_ℤ (pos 2048))) ∷ items.Word (rv.Lui 5 (pos 1)) ∷ items.Word (rv.Add 5 5 2) ∷ items.Word (rv.Lw 5 5 (pos 4)) ∷ items.Word (rv.Lui 7 (pos 1)) ∷ items.Word (rv.Add 7 7 2) ∷ items.Word (rv.Sw 7 5 (pos 0)) ∷ items.Word (rv.Lui 5 (pos 1)) ∷ items.Word (rv.Add 5 5 2) ∷ items.Word (rv.Lw 5 5 (pos 0)) ∷ items.Word (rv.Addi 6 0 (pos 1)) ∷ items.Word (rv.Add 5 5 6) ∷ items.Word (rv.Lui 7 (pos 1)) ∷ items.Word (rv.Add 7 7 2) ∷ items.Word (rv.Sw 7 5 (pos 2044)) ∷ items.Word (rv.Lui 5 (pos 1)) ∷ items.Word (rv.Add 5 5 2) ∷ items.Word (rv.Lw 5 5 (neg_ℤ (pos 2048))) ∷ items.Word (rv.Lui 7 (pos 1)) ∷ items.Word (rv.Add 7 7 2) ∷ items.Word (rv.Sw 7 5 (neg_ℤ (pos 2048))) ∷ items.Word (rv.Lw 5 2 (pos 2044)) ∷ items.Word (rv.Lui 7 (pos 1)) ∷ items.Word (rv.Add 7 7 2) ∷ items.Word (rv.Sw 7 5 (neg_ℤ (pos 2044))) ∷ items.Word (rv.Lui 5 (pos 1)) ∷ items.Word (rv.Add 5 5 2) ∷ items.Word (rv.Lw 5 5 (pos 2044)) ∷ items.Word (rv.Lui 7 (pos 1)) ∷ items.Word (rv.Add 7 7 2) ∷ items.Word (rv.Sw 7 5 (pos 4)) ∷ items.Word (rv.Lui 5 (pos 1)) ∷ items.Word (rv.Add 5 5 2) ∷ items.Word (rv.Lw 5 5 (pos 2044)) ∷ items.Word (rv.Beq 5 0 (neg_ℤ (pos 172))) ∷ items.Word (rv.Lw 10 2 (pos 2044)) ∷ items.Word (rv.Lw 1 2 (pos 0)) ∷ items.Word (rv.Lui 5 (pos 16)) ∷ items.Word (rv.Addi 5 5 (pos 0)) ∷ items.Word (rv.Add 2 2 5) ∷ items.Word (rv.Jalr 0 1 (pos 0)) ∷ [] } ∷
+    record { frame = record { bytes = 65536; homes = home.InSlot 2044 ∷ home.InSlot 2048 ∷ [] }; body = record { params = 1; regs = 2; blocks = record { phis = []; code = []; end = ends.Cond (operand.Reg (record { 0 = 0 })) (record { 0 = 1 }) (record { 0 = 2 }) } ∷ record { phis = []; code = []; end = ends.Ret (Some (operand.Word 1)) } ∷ record { phis = []; code = []; end = ends.Ret (Some (operand.Word 2)) } ∷ [] }; expected = items.Word (rv.Lui 5 (pos 16)) ∷ items.Word (rv.Addi 5 5 (pos 0)) ∷ items.Word (rv.Sub 2 2 5) ∷ items.Word (rv.Sw 2 1 (pos 0)) ∷ items.Word (rv.Sw 2 10 (pos 2044)) ∷ items.Word (rv.Lw 5 2 (pos 2044)) ∷ items.Word (rv.Beq 5 0 (pos 28)) ∷ items.Word (rv.Addi 10 0 (pos 1)) ∷ items.Word (rv.Lw 1 2 (pos 0)) ∷ items.Word (rv.Lui 5 (pos 16)) ∷ items.Word (rv.Addi 5 5 (pos 0)) ∷ items.Word (rv.Add 2 2 5) ∷ items.Word (rv.Jalr 0 1 (pos 0)) ∷ items.Word (rv.Addi 10 0 (pos 2)) ∷ items.Word (rv.Lw 1 2 (pos 0)) ∷ items.Word (rv.Lui 5 (pos 16)) ∷ items.Word (rv.Addi 5 5 (pos 0)) ∷ items.Word (rv.Add 2 2 5) ∷ items.Word (rv.Jalr 0 1 (pos 0)) ∷ [] } ∷
+    record { frame = record { bytes = 65536; homes = home.InSlot 2044 ∷ home.InSlot 2048 ∷ [] }; body = record { params = 1; regs = 2; blocks = record { phis = []; code = []; end = ends.Cond (operand.Reg (record { 0 = 0 })) (record { 0 = 2 }) (record { 0 = 1 }) } ∷ record { phis = []; code = []; end = ends.Ret (Some (operand.Word 1)) } ∷ record { phis = []; code = []; end = ends.Ret (Some (operand.Word 2)) } ∷ [] }; expected = items.Word (rv.Lui 5 (pos 16)) ∷ items.Word (rv.Addi 5 5 (pos 0)) ∷ items.Word (rv.Sub 2 2 5) ∷ items.Word (rv.Sw 2 1 (pos 0)) ∷ items.Word (rv.Sw 2 10 (pos 2044)) ∷ items.Word (rv.Lw 5 2 (pos 2044)) ∷ items.Word (rv.Bne 5 0 (pos 28)) ∷ items.Word (rv.Addi 10 0 (pos 1)) ∷ items.Word (rv.Lw 1 2 (pos 0)) ∷ items.Word (rv.Lui 5 (pos 16)) ∷ items.Word (rv.Addi 5 5 (pos 0)) ∷ items.Word (rv.Add 2 2 5) ∷ items.Word (rv.Jalr 0 1 (pos 0)) ∷ items.Word (rv.Addi 10 0 (pos 2)) ∷ items.Word (rv.Lw 1 2 (pos 0)) ∷ items.Word (rv.Lui 5 (pos 16)) ∷ items.Word (rv.Addi 5 5 (pos 0)) ∷ items.Word (rv.Add 2 2 5) ∷ items.Word (rv.Jalr 0 1 (pos 0)) ∷ [] } ∷
     record { frame = record { bytes = 65536; homes = home.InSlot 2044 ∷ [] }; body = record { params = 1; regs = 1; blocks = record { phis = []; code = []; end = ends.Br (record { 0 = 2 }) } ∷ record { phis = []; code = []; end = ends.Ret None } ∷ record { phis = []; code = []; end = ends.Br (record { 0 = 1 }) } ∷ [] }; expected = items.Word (rv.Lui 5 (pos 16)) ∷ items.Word (rv.Addi 5 5 (pos 0)) ∷ items.Word (rv.Sub 2 2 5) ∷ items.Word (rv.Sw 2 1 (pos 0)) ∷ items.Word (rv.Sw 2 10 (pos 2044)) ∷ items.Word (rv.Jal 0 (pos 24)) ∷ items.Word (rv.Lw 1 2 (pos 0)) ∷ items.Word (rv.Lui 5 (pos 16)) ∷ items.Word (rv.Addi 5 5 (pos 0)) ∷ items.Word (rv.Add 2 2 5) ∷ items.Word (rv.Jalr 0 1 (pos 0)) ∷ items.Word (rv.Jal 0 (neg_ℤ (pos 20))) ∷ [] } ∷
-    record { frame = record { bytes = 65536; homes = home.InSlot 2044 ∷ home.OfPhi 2048 ∷ [] }; body = record { params = 1; regs = 2; blocks = record { phis = []; code = []; end = ends.Switch (operand.Reg (record { 0 = 0 })) W8 (record { word = 1; to = (record { 0 = 1 }) } ∷ record { word = 255; to = (record { 0 = 2 }) } ∷ record { word = 0; to = (record { 0 = 1 }) } ∷ []) (record { 0 = 3 }) } ∷ record { phis = []; code = []; end = ends.Br (record { 0 = 3 }) } ∷ record { phis = []; code = []; end = ends.Br (record { 0 = 3 }) } ∷ record { phis = record { reg = (record { 0 = 1 }); entries = record { from = (record { 0 = 0 }); value = (operand.Word 9) } ∷ record { from = (record { 0 = 1 }); value = (operand.Word 8) } ∷ record { from = (record { 0 = 2 }); value = (operand.Word 7) } ∷ [] } ∷ []; code = []; end = ends.Ret (Some (operand.Reg (record { 0 = 1 }))) } ∷ [] }; expected = items.Word (rv.Lui 5 (pos 16)) ∷ items.Word (rv.Addi 5 5 (pos 0)) ∷ items.Word (rv.Sub 2 2 5) ∷ items.Word (rv.Sw 2 1 (pos 0)) ∷ items.Word (rv.Sw 2 10 (pos 2044)) ∷ items.Word (rv.Addi 5 0 (pos 9)) ∷ items.Word (rv.Lui 7 (pos 1)) ∷ items.Word (rv.Add 7 7 2) ∷ items.Word (rv.Sw 7 5 (neg_ℤ (pos 2044))) ∷ items.Word (rv.Lw 5 2 (pos 2044)) ∷ items.Word (rv.Addi 6 0 (pos 1)) ∷ items.Word (rv.Bne 5 6 (pos 8)) ∷ items.Word (rv.Jal 0 (pos 32)) ∷ items.Word (rv.Addi 6 0 (pos 255)) ∷ items.Word (rv.Bne 5 6 (pos 8)) ∷ items.Word (rv.Jal 0 (pos 40)) ∷ items.Word (rv.Addi 6 0 (pos 0)) ∷ items.Word (rv.Bne 5 6 (pos 8)) ∷ items.Word (rv.Jal 0 (pos 8)) ∷ items.Word (rv.Jal 0 (pos 40)) ∷ items.Word (rv.Addi 5 0 (pos 8)) ∷ items.Word (rv.Lui 7 (pos 1)) ∷ items.Word (rv.Add 7 7 2) ∷ items.Word (rv.Sw 7 5 (neg_ℤ (pos 2044))) ∷ items.Word (rv.Jal 0 (pos 20)) ∷ items.Word (rv.Addi 5 0 (pos 7)) ∷ items.Word (rv.Lui 7 (pos 1)) ∷ items.Word (rv.Add 7 7 2) ∷ items.Word (rv.Sw 7 5 (neg_ℤ (pos 2044))) ∷ items.Word (rv.Lui 5 (pos 1)) ∷ items.Word (rv.Add 5 5 2) ∷ items.Word (rv.Lw 5 5 (neg_ℤ (pos 2044))) ∷ items.Word (rv.Lui 7 (pos 1)) ∷ items.Word (rv.Add 7 7 2) ∷ items.Word (rv.Sw 7 5 (neg_ℤ (pos 2048))) ∷ items.Word (rv.Lui 10 (pos 1)) ∷ items.Word (rv.Add 10 10 2) ∷ items.Word (rv.Lw 10 10 (neg_ℤ (pos 2048))) ∷ items.Word (rv.Lw 1 2 (pos 0)) ∷ items.Word (rv.Lui 5 (pos 16)) ∷ items.Word (rv.Addi 5 5 (pos 0)) ∷ items.Word (rv.Add 2 2 5) ∷ items.Word (rv.Jalr 0 1 (pos 0)) ∷ [] } ∷
+    record { frame = record { bytes = 65536; homes = home.InSlot 2044 ∷ home.OfPhi 2048 ∷ [] }; body = record { params = 1; regs = 2; blocks = record { phis = []; code = []; end = ends.Switch (operand.Reg (record { 0 = 0 })) W8 (record { word = 1; to = (record { 0 = 1 }) } ∷ record { word = 255; to = (record { 0 = 2 }) } ∷ record { word = 0; to = (record { 0 = 1 }) } ∷ []) (record { 0 = 3 }) } ∷ record { phis = []; code = []; end = ends.Br (record { 0 = 3 }) } ∷ record { phis = []; code = []; end = ends.Br (record { 0 = 3 }) } ∷ record { phis = record { reg = (record { 0 = 1 }); entries = record { from = (record { 0 = 0 }); value = (operand.Word 9) } ∷ record { from = (record { 0 = 1 }); value = (operand.Word 8) } ∷ record { from = (record { 0 = 2 }); value = (operand.Word 7) } ∷ [] } ∷ []; code = []; end = ends.Ret (Some (operand.Reg (record { 0 = 1 }))) } ∷ [] }; expected = items.Word (rv.Lui 5 (pos 16)) ∷ items.Word (rv.Addi 5 5 (pos 0)) ∷ items.Word (rv.Sub 2 2 5) ∷ items.Word (rv.Sw 2 1 (pos 0)) ∷ items.Word (rv.Sw 2 10 (pos 2044)) ∷ items.Word (rv.Addi 5 0 (pos 9)) ∷ items.Word (rv.Lui 7 (pos 1)) ∷ items.Word (rv.Add 7 7 2) ∷ items.Word (rv.Sw 7 5 (neg_ℤ (pos 2044))) ∷ items.Word (rv.Lw 5 2 (pos 2044)) ∷ items.Word (rv.Addi 6 0 (pos 1)) ∷ items.Word (rv.Beq 5 6 (pos 24)) ∷ items.Word (rv.Addi 6 0 (pos 255)) ∷ items.Word (rv.Beq 5 6 (pos 36)) ∷ items.Word (rv.Addi 6 0 (pos 0)) ∷ items.Word (rv.Beq 5 6 (pos 8)) ∷ items.Word (rv.Jal 0 (pos 40)) ∷ items.Word (rv.Addi 5 0 (pos 8)) ∷ items.Word (rv.Lui 7 (pos 1)) ∷ items.Word (rv.Add 7 7 2) ∷ items.Word (rv.Sw 7 5 (neg_ℤ (pos 2044))) ∷ items.Word (rv.Jal 0 (pos 20)) ∷ items.Word (rv.Addi 5 0 (pos 7)) ∷ items.Word (rv.Lui 7 (pos 1)) ∷ items.Word (rv.Add 7 7 2) ∷ items.Word (rv.Sw 7 5 (neg_ℤ (pos 2044))) ∷ items.Word (rv.Lui 5 (pos 1)) ∷ items.Word (rv.Add 5 5 2) ∷ items.Word (rv.Lw 5 5 (neg_ℤ (pos 2044))) ∷ items.Word (rv.Lui 7 (pos 1)) ∷ items.Word (rv.Add 7 7 2) ∷ items.Word (rv.Sw 7 5 (neg_ℤ (pos 2048))) ∷ items.Word (rv.Lui 10 (pos 1)) ∷ items.Word (rv.Add 10 10 2) ∷ items.Word (rv.Lw 10 10 (neg_ℤ (pos 2048))) ∷ items.Word (rv.Lw 1 2 (pos 0)) ∷ items.Word (rv.Lui 5 (pos 16)) ∷ items.Word (rv.Addi 5 5 (pos 0)) ∷ items.Word (rv.Add 2 2 5) ∷ items.Word (rv.Jalr 0 1 (pos 0)) ∷ [] } ∷
     record { frame = record { bytes = 65536; homes = home.InSlot 2044 ∷ home.InSlot 2048 ∷ [] }; body = record { params = 1; regs = 2; blocks = record { phis = []; code = []; end = ends.Switch (operand.Reg (record { 0 = 0 })) W32 ([]) (record { 0 = 1 }) } ∷ record { phis = []; code = []; end = ends.Ret None } ∷ [] }; expected = items.Word (rv.Lui 5 (pos 16)) ∷ items.Word (rv.Addi 5 5 (pos 0)) ∷ items.Word (rv.Sub 2 2 5) ∷ items.Word (rv.Sw 2 1 (pos 0)) ∷ items.Word (rv.Sw 2 10 (pos 2044)) ∷ items.Word (rv.Lw 5 2 (pos 2044)) ∷ items.Word (rv.Lw 1 2 (pos 0)) ∷ items.Word (rv.Lui 5 (pos 16)) ∷ items.Word (rv.Addi 5 5 (pos 0)) ∷ items.Word (rv.Add 2 2 5) ∷ items.Word (rv.Jalr 0 1 (pos 0)) ∷ [] } ∷
-    record { frame = record { bytes = 65536; homes = home.InSlot 2044 ∷ home.OfPhi 2048 ∷ home.OfPhi 4096 ∷ [] }; body = record { params = 1; regs = 3; blocks = record { phis = []; code = []; end = ends.Switch (operand.Reg (record { 0 = 0 })) W32 (record { word = 4096; to = (record { 0 = 1 }) } ∷ record { word = 5; to = (record { 0 = 2 }) } ∷ record { word = 4294967295; to = (record { 0 = 1 }) } ∷ []) (record { 0 = 2 }) } ∷ record { phis = record { reg = (record { 0 = 1 }); entries = record { from = (record { 0 = 0 }); value = (operand.Reg (record { 0 = 0 })) } ∷ [] } ∷ []; code = []; end = ends.Ret (Some (operand.Reg (record { 0 = 1 }))) } ∷ record { phis = record { reg = (record { 0 = 2 }); entries = record { from = (record { 0 = 0 }); value = (operand.Word 4) } ∷ [] } ∷ []; code = []; end = ends.Ret (Some (operand.Reg (record { 0 = 2 }))) } ∷ [] }; expected = items.Word (rv.Lui 5 (pos 16)) ∷ items.Word (rv.Addi 5 5 (pos 0)) ∷ items.Word (rv.Sub 2 2 5) ∷ items.Word (rv.Sw 2 1 (pos 0)) ∷ items.Word (rv.Sw 2 10 (pos 2044)) ∷ items.Word (rv.Lw 5 2 (pos 2044)) ∷ items.Word (rv.Lui 7 (pos 1)) ∷ items.Word (rv.Add 7 7 2) ∷ items.Word (rv.Sw 7 5 (neg_ℤ (pos 2044))) ∷ items.Word (rv.Addi 5 0 (pos 4)) ∷ items.Word (rv.Lui 7 (pos 1)) ∷ items.Word (rv.Add 7 7 2) ∷ items.Word (rv.Sw 7 5 (pos 4)) ∷ items.Word (rv.Lw 5 2 (pos 2044)) ∷ items.Word (rv.Lui 6 (pos 1)) ∷ items.Word (rv.Bne 5 6 (pos 8)) ∷ items.Word (rv.Jal 0 (pos 32)) ∷ items.Word (rv.Addi 6 0 (pos 5)) ∷ items.Word (rv.Bne 5 6 (pos 8)) ∷ items.Word (rv.Jal 0 (pos 76)) ∷ items.Word (rv.Addi 6 0 (neg_ℤ (pos 1))) ∷ items.Word (rv.Bne 5 6 (pos 8)) ∷ items.Word (rv.Jal 0 (pos 8)) ∷ items.Word (rv.Jal 0 (pos 60)) ∷ items.Word (rv.Lui 5 (pos 1)) ∷ items.Word (rv.Add 5 5 2) ∷ items.Word (rv.Lw 5 5 (neg_ℤ (pos 2044))) ∷ items.Word (rv.Lui 7 (pos 1)) ∷ items.Word (rv.Add 7 7 2) ∷ items.Word (rv.Sw 7 5 (neg_ℤ (pos 2048))) ∷ items.Word (rv.Lui 10 (pos 1)) ∷ items.Word (rv.Add 10 10 2) ∷ items.Word (rv.Lw 10 10 (neg_ℤ (pos 2048))) ∷ items.Word (rv.Lw 1 2 (pos 0)) ∷ items.Word (rv.Lui 5 (pos 16)) ∷ items.Word (rv.Addi 5 5 (pos 0)) ∷ items.Word (rv.Add 2 2 5) ∷ items.Word (rv.Jalr 0 1 (pos 0)) ∷ items.Word (rv.Lui 5 (pos 1)) ∷ items.Word (rv.Add 5 5 2) ∷ items.Word (rv.Lw 5 5 (pos 4)) ∷ items.Word (rv.Lui 7 (pos 1)) ∷ items.Word (rv.Add 7 7 2) ∷ items.Word (rv.Sw 7 5 (pos 0)) ∷ items.Word (rv.Lui 10 (pos 1)) ∷ items.Word (rv.Add 10 10 2) ∷ items.Word (rv.Lw 10 10 (pos 0)) ∷ items.Word (rv.Lw 1 2 (pos 0)) ∷ items.Word (rv.Lui 5 (pos 16)) ∷ items.Word (rv.Addi 5 5 (pos 0)) ∷ items.Word (rv.Add 2 2 5) ∷ items.Word (rv.Jalr 0 1 (pos 0)) ∷ [] } ∷
-    record { frame = record { bytes = 65536; homes = home.InSlot 2044 ∷ home.OfPhi 2048 ∷ home.OfPhi 4096 ∷ [] }; body = record { params = 1; regs = 3; blocks = record { phis = []; code = []; end = ends.Cond (operand.Reg (record { 0 = 0 })) (record { 0 = 1 }) (record { 0 = 1 }) } ∷ record { phis = record { reg = (record { 0 = 1 }); entries = record { from = (record { 0 = 0 }); value = (operand.Word 5) } ∷ record { from = (record { 0 = 0 }); value = (operand.Word 5) } ∷ [] } ∷ record { reg = (record { 0 = 2 }); entries = record { from = (record { 0 = 0 }); value = (operand.Word 6) } ∷ record { from = (record { 0 = 0 }); value = (operand.Word 6) } ∷ [] } ∷ []; code = []; end = ends.Br (record { 0 = 2 }) } ∷ record { phis = []; code = []; end = ends.Br (record { 0 = 2 }) } ∷ [] }; expected = items.Word (rv.Lui 5 (pos 16)) ∷ items.Word (rv.Addi 5 5 (pos 0)) ∷ items.Word (rv.Sub 2 2 5) ∷ items.Word (rv.Sw 2 1 (pos 0)) ∷ items.Word (rv.Sw 2 10 (pos 2044)) ∷ items.Word (rv.Addi 5 0 (pos 5)) ∷ items.Word (rv.Lui 7 (pos 1)) ∷ items.Word (rv.Add 7 7 2) ∷ items.Word (rv.Sw 7 5 (neg_ℤ (pos 2044))) ∷ items.Word (rv.Addi 5 0 (pos 6)) ∷ items.Word (rv.Lui 7 (pos 1)) ∷ items.Word (rv.Add 7 7 2) ∷ items.Word (rv.Sw 7 5 (pos 4)) ∷ items.Word (rv.Lw 5 2 (pos 2044)) ∷ items.Word (rv.Beq 5 0 (pos 8)) ∷ items.Word (rv.Jal 0 (pos 4)) ∷ items.Word (rv.Lui 5 (pos 1)) ∷ items.Word (rv.Add 5 5 2) ∷ items.Word (rv.Lw 5 5 (neg_ℤ (pos 2044))) ∷ items.Word (rv.Lui 7 (pos 1)) ∷ items.Word (rv.Add 7 7 2) ∷ items.Word (rv.Sw 7 5 (neg_ℤ (pos 2048))) ∷ items.Word (rv.Lui 5 (pos 1)) ∷ items.Word (rv.Add 5 5 2) ∷ items.Word (rv.Lw 5 5 (pos 4)) ∷ items.Word (rv.Lui 7 (pos 1)) ∷ items.Word (rv.Add 7 7 2) ∷ items.Word (rv.Sw 7 5 (pos 0)) ∷ items.Word (rv.Jal 0 (pos 0)) ∷ [] } ∷
+    record { frame = record { bytes = 65536; homes = home.InSlot 2044 ∷ home.OfPhi 2048 ∷ home.OfPhi 4096 ∷ [] }; body = record { params = 1; regs = 3; blocks = record { phis = []; code = []; end = ends.Switch (operand.Reg (record { 0 = 0 })) W32 (record { word = 4096; to = (record { 0 = 1 }) } ∷ record { word = 5; to = (record { 0 = 2 }) } ∷ record { word = 4294967295; to = (record { 0 = 1 }) } ∷ []) (record { 0 = 2 }) } ∷ record { phis = record { reg = (record { 0 = 1 }); entries = record { from = (record { 0 = 0 }); value = (operand.Reg (record { 0 = 0 })) } ∷ [] } ∷ []; code = []; end = ends.Ret (Some (operand.Reg (record { 0 = 1 }))) } ∷ record { phis = record { reg = (record { 0 = 2 }); entries = record { from = (record { 0 = 0 }); value = (operand.Word 4) } ∷ [] } ∷ []; code = []; end = ends.Ret (Some (operand.Reg (record { 0 = 2 }))) } ∷ [] }; expected = items.Word (rv.Lui 5 (pos 16)) ∷ items.Word (rv.Addi 5 5 (pos 0)) ∷ items.Word (rv.Sub 2 2 5) ∷ items.Word (rv.Sw 2 1 (pos 0)) ∷ items.Word (rv.Sw 2 10 (pos 2044)) ∷ items.Word (rv.Lw 5 2 (pos 2044)) ∷ items.Word (rv.Lui 7 (pos 1)) ∷ items.Word (rv.Add 7 7 2) ∷ items.Word (rv.Sw 7 5 (neg_ℤ (pos 2044))) ∷ items.Word (rv.Addi 5 0 (pos 4)) ∷ items.Word (rv.Lui 7 (pos 1)) ∷ items.Word (rv.Add 7 7 2) ∷ items.Word (rv.Sw 7 5 (pos 4)) ∷ items.Word (rv.Lw 5 2 (pos 2044)) ∷ items.Word (rv.Lui 6 (pos 1)) ∷ items.Word (rv.Beq 5 6 (pos 24)) ∷ items.Word (rv.Addi 6 0 (pos 5)) ∷ items.Word (rv.Beq 5 6 (pos 72)) ∷ items.Word (rv.Addi 6 0 (neg_ℤ (pos 1))) ∷ items.Word (rv.Beq 5 6 (pos 8)) ∷ items.Word (rv.Jal 0 (pos 60)) ∷ items.Word (rv.Lui 5 (pos 1)) ∷ items.Word (rv.Add 5 5 2) ∷ items.Word (rv.Lw 5 5 (neg_ℤ (pos 2044))) ∷ items.Word (rv.Lui 7 (pos 1)) ∷ items.Word (rv.Add 7 7 2) ∷ items.Word (rv.Sw 7 5 (neg_ℤ (pos 2048))) ∷ items.Word (rv.Lui 10 (pos 1)) ∷ items.Word (rv.Add 10 10 2) ∷ items.Word (rv.Lw 10 10 (neg_ℤ (pos 2048))) ∷ items.Word (rv.Lw 1 2 (pos 0)) ∷ items.Word (rv.Lui 5 (pos 16)) ∷ items.Word (rv.Addi 5 5 (pos 0)) ∷ items.Word (rv.Add 2 2 5) ∷ items.Word (rv.Jalr 0 1 (pos 0)) ∷ items.Word (rv.Lui 5 (pos 1)) ∷ items.Word (rv.Add 5 5 2) ∷ items.Word (rv.Lw 5 5 (pos 4)) ∷ items.Word (rv.Lui 7 (pos 1)) ∷ items.Word (rv.Add 7 7 2) ∷ items.Word (rv.Sw 7 5 (pos 0)) ∷ items.Word (rv.Lui 10 (pos 1)) ∷ items.Word (rv.Add 10 10 2) ∷ items.Word (rv.Lw 10 10 (pos 0)) ∷ items.Word (rv.Lw 1 2 (pos 0)) ∷ items.Word (rv.Lui 5 (pos 16)) ∷ items.Word (rv.Addi 5 5 (pos 0)) ∷ items.Word (rv.Add 2 2 5) ∷ items.Word (rv.Jalr 0 1 (pos 0)) ∷ [] } ∷
+    record { frame = record { bytes = 65536; homes = home.InSlot 2044 ∷ home.OfPhi 2048 ∷ home.OfPhi 4096 ∷ [] }; body = record { params = 1; regs = 3; blocks = record { phis = []; code = []; end = ends.Cond (operand.Reg (record { 0 = 0 })) (record { 0 = 1 }) (record { 0 = 1 }) } ∷ record { phis = record { reg = (record { 0 = 1 }); entries = record { from = (record { 0 = 0 }); value = (operand.Word 5) } ∷ record { from = (record { 0 = 0 }); value = (operand.Word 5) } ∷ [] } ∷ record { reg = (record { 0 = 2 }); entries = record { from = (record { 0 = 0 }); value = (operand.Word 6) } ∷ record { from = (record { 0 = 0 }); value = (operand.Word 6) } ∷ [] } ∷ []; code = []; end = ends.Br (record { 0 = 2 }) } ∷ record { phis = []; code = []; end = ends.Br (record { 0 = 2 }) } ∷ [] }; expected = items.Word (rv.Lui 5 (pos 16)) ∷ items.Word (rv.Addi 5 5 (pos 0)) ∷ items.Word (rv.Sub 2 2 5) ∷ items.Word (rv.Sw 2 1 (pos 0)) ∷ items.Word (rv.Sw 2 10 (pos 2044)) ∷ items.Word (rv.Addi 5 0 (pos 5)) ∷ items.Word (rv.Lui 7 (pos 1)) ∷ items.Word (rv.Add 7 7 2) ∷ items.Word (rv.Sw 7 5 (neg_ℤ (pos 2044))) ∷ items.Word (rv.Addi 5 0 (pos 6)) ∷ items.Word (rv.Lui 7 (pos 1)) ∷ items.Word (rv.Add 7 7 2) ∷ items.Word (rv.Sw 7 5 (pos 4)) ∷ items.Word (rv.Lw 5 2 (pos 2044)) ∷ items.Word (rv.Beq 5 0 (pos 4)) ∷ items.Word (rv.Lui 5 (pos 1)) ∷ items.Word (rv.Add 5 5 2) ∷ items.Word (rv.Lw 5 5 (neg_ℤ (pos 2044))) ∷ items.Word (rv.Lui 7 (pos 1)) ∷ items.Word (rv.Add 7 7 2) ∷ items.Word (rv.Sw 7 5 (neg_ℤ (pos 2048))) ∷ items.Word (rv.Lui 5 (pos 1)) ∷ items.Word (rv.Add 5 5 2) ∷ items.Word (rv.Lw 5 5 (pos 4)) ∷ items.Word (rv.Lui 7 (pos 1)) ∷ items.Word (rv.Add 7 7 2) ∷ items.Word (rv.Sw 7 5 (pos 0)) ∷ items.Word (rv.Jal 0 (pos 0)) ∷ [] } ∷
     []
 
 abbrev pub a_loop_of_phis : List FlatBody
@@ -294,10 +294,10 @@ pub record WorkedCodes : Type 0 where
   pub words_are_right : AreRight words
   pub others_are_right : AreRight others
   pub far_homes_are_right : AreRightFar far_homes
-  pub text_of_a_loop_of_phis : text_bytes a_loop_of_phis ≡ 164
-  pub text_of_a_switch_into_a_phi : text_bytes a_switch_into_a_phi ≡ 108
+  pub text_of_a_loop_of_phis : text_bytes a_loop_of_phis ≡ 156
+  pub text_of_a_switch_into_a_phi : text_bytes a_switch_into_a_phi ≡ 100
   pub text_of_operations_that_are_not_folded : text_bytes operations_that_are_not_folded ≡ 88
-  pub text_of_a_loop_of_calls : text_bytes a_loop_of_calls ≡ 184
+  pub text_of_a_loop_of_calls : text_bytes a_loop_of_calls ≡ 176
   pub text_of_a_call_that_never_returns : text_bytes a_call_that_never_returns ≡ 88
-  pub text_of_bytes_through : text_bytes bytes_through ≡ 104
+  pub text_of_bytes_through : text_bytes bytes_through ≡ 100
   pub text_of_a_global_and_an_alloca : text_bytes a_global_and_an_alloca ≡ 120

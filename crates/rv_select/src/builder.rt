@@ -1,32 +1,33 @@
 ghost use Rattle.std.specs.Prelude.{◌≡◌, ◌++◌, ◌∷◌, [], ◌<◌, All, OnOk, length};
 ghost use Rattle.rv_isa.specs.Words.{InRange};
-ghost use Rattle.rv_select.specs.Pending.{fixed, word, jump_to, IsPending, IsItem};
+ghost use Rattle.rv_select.specs.Pending.{word, IsDraft, IsItem};
 ghost use Rattle.rv_select.specs.Lowered.{call_pair};
+ghost use Rattle.rv_select.specs.declared.item.Draft.TheVariants as drafts;
 ghost use Rattle.rv_select.specs.declared.item.Item.TheVariants as item;
 
-use crate::item::{Item, PendingItem};
+use crate::item::{Draft, Item, Test};
 use oi_base::{BlockId, FuncId, NoMemory};
 use rv_isa::{Rv, X};
 use std::alloc::Global;
 use std::marker::Model;
 
-/// A code that is being built, in which blocks have no offsets yet. Contracts see the list of its items.
+/// A code that is being built, in which blocks have no places yet. Contracts see the list of its drafts.
 #[derive(Drop)]
 pub struct CodeBuilder {
-    pending: Vec<PendingItem>,
+    drafts: Vec<Draft>,
 }
 
 impl Model for CodeBuilder {
     ghost use Rattle.std.specs.Prelude.{List, All};
-    ghost use Rattle.rv_select.specs.declared.item.PendingItem.{PendingItem};
+    ghost use Rattle.rv_select.specs.declared.item.Draft.{Draft};
 
-    ghost Value = { List PendingItem };
+    ghost Value = { List Draft };
 
-    ghost use Rattle.rv_select.specs.Pending.{fixed, word, jump_to, IsPending, IsItem};
+    ghost use Rattle.rv_select.specs.Pending.{IsDraft};
 
-    ghost view = { λ b. b.pending.items };
+    ghost view = { λ b. b.drafts.items };
 
-    ghost invariant = { λ b. All IsPending b.pending.items };
+    ghost invariant = { λ b. All IsDraft b.drafts.items };
 }
 
 impl CodeBuilder {
@@ -34,17 +35,26 @@ impl CodeBuilder {
         ensures { result ≡ [] }
     {
         CodeBuilder {
-            pending: Vec::new(alloc),
+            drafts: Vec::new(alloc),
         }
+    }
+
+    fn draft(&mut self, draft: Draft) -> Result<(), NoMemory>
+        requires { IsDraft draft }
+        ensures { OnOk result (self.new ≡ self.old ++ draft ∷ []) }
+    {
+        // The checker asks for the type of what a draft holds.
+        let _items: &[Item] = &[];
+        self.drafts.push(draft)?;
+        Ok(())
     }
 
     /// Appends an item as it is.
     fn fixed(&mut self, item: Item) -> Result<(), NoMemory>
         requires { IsItem item }
-        ensures { OnOk result (self.new ≡ self.old ++ fixed item ∷ []) }
+        ensures { OnOk result (self.new ≡ self.old ++ drafts.Fixed item ∷ []) }
     {
-        self.pending.push(PendingItem { item, to: None })?;
-        Ok(())
+        self.draft(Draft::Fixed(item))
     }
 
     /// Appends an instruction.
@@ -67,12 +77,18 @@ impl CodeBuilder {
 
     /// Appends a jump to a block.
     pub fn jump(&mut self, to: BlockId) -> Result<(), NoMemory>
-        ensures { OnOk result (self.new ≡ self.old ++ jump_to to ∷ []) }
+        ensures { OnOk result (self.new ≡ self.old ++ drafts.Jump to ∷ []) }
     {
-        let item = Item::Word(Rv::Jal(X::ZERO, 0));
-        let to = Some(to);
-        self.pending.push(PendingItem { item, to })?;
-        Ok(())
+        self.draft(Draft::Jump(to))
+    }
+
+    /// Appends a branch to a block, at a test of two registers.
+    pub fn branch(&mut self, test: Test, r: X, q: X, to: BlockId) -> Result<(), NoMemory>
+        requires first { r < 32 }
+        requires second { q < 32 }
+        ensures { OnOk result (self.new ≡ self.old ++ drafts.Near test r q to ∷ []) }
+    {
+        self.draft(Draft::Near(test, r, q, to))
     }
 
     /// Appends a call.
@@ -86,22 +102,22 @@ impl CodeBuilder {
     /// Appends what puts the address of a global plus so many bytes into a register.
     pub fn address(&mut self, r: X, global: u32, bytes: u32) -> Result<(), NoMemory>
         requires { r < 32 }
-        ensures { OnOk result (self.new ≡ self.old ++ fixed (item.AddressHigh r global bytes) ∷ fixed (item.AddressLow r global bytes) ∷ []) }
+        ensures { OnOk result (self.new ≡ self.old ++ drafts.Fixed (item.AddressHigh r global bytes) ∷ drafts.Fixed (item.AddressLow r global bytes) ∷ []) }
     {
         self.fixed(Item::AddressHigh(r, global, bytes))?;
         self.fixed(Item::AddressLow(r, global, bytes))
     }
 
-    pub fn as_slice(&self) -> &[PendingItem]
+    pub fn as_slice(&self) -> &[Draft]
         ensures all { result.now ≡ self.now }
-        ensures pending { All IsPending result.now }
+        ensures drafts { All IsDraft result.now }
     {
-        &self.pending
+        &self.drafts
     }
 
     pub fn len(&self) -> usize
         ensures { result ≡ length self.now }
     {
-        self.pending.len()
+        self.drafts.len()
     }
 }

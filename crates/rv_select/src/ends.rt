@@ -1,14 +1,15 @@
-ghost use Rattle.std.specs.Prelude.{◌≡◌, ◌++◌, ◌∷◌, [], ℕ, map, slice_get, OnOk, IfOk};
+ghost use Rattle.std.specs.Prelude.{◌≡◌, ◌+◌, ◌++◌, ◌∷◌, [], ℕ, nat_eq, map, slice_get, OnOk, IfOk};
 ghost use Rattle.std.specs.List.{flat_map};
 ghost use Rattle.frame_layout.specs.Offsets.{shadow_of};
-ghost use Rattle.rv_select.specs.Pending.{words, jump_to};
+ghost use Rattle.rv_select.specs.Pending.{words};
 ghost use Rattle.rv_select.specs.Parts.{t0};
 ghost use Rattle.rv_select.specs.Incoming.{value_at, value_for, HasIncoming};
-ghost use Rattle.rv_select.specs.Lowered.{load_from, store_to, take_phi, head, load_entry, give_phi, give_phis, numbers, distinct_from, successors, before_end, jump, case_code, load_value, end_code};
+ghost use Rattle.rv_select.specs.Lowered.{load_from, store_to, take_phi, head, load_entry, give_phi, give_phis, numbers, distinct_from, successors, before_end, jump, choose, case_code, load_value, end_code};
 
 use crate::builder::CodeBuilder;
 use crate::incoming::Incoming;
 use crate::instrs::{push_load, push_store};
+use crate::item::Test;
 use crate::pieces::{push_epilogue, push_load_slot, push_store_slot, push_word};
 use frame_layout::Frame;
 use ir_core::{Case, FlatBlock, FlatEnd, FlatOp, Phi};
@@ -182,22 +183,39 @@ fn push_give_to(
     }
 }
 
+/// A block comes next after block `n`.
+fn comes_next(n: usize, to: BlockId) -> bool
+    ensures { result ≡ nat_eq to.0 (n + 1) }
+{
+    to.0 > 0 && (to.0 - 1) as usize == n
+}
+
 /// Appends a jump to a block, unless it comes next after block `n`.
 fn push_jump(code: &mut CodeBuilder, n: usize, to: BlockId) -> Result<(), NoMemory>
     ensures { OnOk result (code.new ≡ code.old ++ jump n to) }
 {
-    if to.0 > 0 && (to.0 - 1) as usize == n {
+    if comes_next(n, to) {
         return Ok(());
     }
     code.jump(to)
+}
+
+/// Appends what leads after block `n` to one block where t0 is not 0, else to another.
+fn push_choose(code: &mut CodeBuilder, n: usize, yes: BlockId, no: BlockId) -> Result<(), NoMemory>
+    ensures { OnOk result (code.new ≡ code.old ++ choose n yes no) }
+{
+    if comes_next(n, yes) {
+        return code.branch(Test::Equal, X::T0, X::ZERO, no);
+    }
+    code.branch(Test::NotEqual, X::T0, X::ZERO, yes)?;
+    push_jump(code, n, no)
 }
 
 fn push_case(code: &mut CodeBuilder, case: Case) -> Result<(), NoMemory>
     ensures { OnOk result (code.new ≡ code.old ++ case_code case) }
 {
     push_word(code, X::T1, case.word)?;
-    code.push(Rv::Bne(X::T0, X::T1, 8))?;
-    code.jump(case.to)
+    code.branch(Test::Equal, X::T0, X::T1, case.to)
 }
 
 fn push_cases(code: &mut CodeBuilder, cases: &[Case]) -> Result<(), NoMemory>
@@ -230,9 +248,7 @@ pub fn push_end(code: &mut CodeBuilder, f: &Frame, n: usize, end: &FlatEnd) -> R
         FlatEnd::Br(to) => push_jump(code, n, *to),
         FlatEnd::Cond(c, yes, no) => {
             push_load(code, f, X::T0, *c)?;
-            code.push(Rv::Beq(X::T0, X::ZERO, 8))?;
-            code.jump(*yes)?;
-            push_jump(code, n, *no)
+            push_choose(code, n, *yes, *no)
         }
         FlatEnd::Switch(value, _, cases, other) => {
             push_load(code, f, X::T0, *value)?;

@@ -13,9 +13,18 @@ pub enum Item {
     AddressLow(X, u32, u32),
 }
 
-/// An item of a code in which blocks have no offsets yet: as it is, or a `jal` whose distance is that of a block's head.
+/// The test of two registers at which a branch is taken.
 #[derive(Clone, Copy, Debug, PartialEq, Eq)]
-pub struct PendingItem {
-    pub item: Item,
-    pub to: Option<BlockId>,
+pub enum Test {
+    Equal,
+    NotEqual,
+}
+
+/// A part of a code in which blocks have no places yet: an item as it is, a `jal` to a block's head, or a branch to one,
+/// which is one instruction where the block is near.
+#[derive(Clone, Copy, Debug, PartialEq, Eq)]
+pub enum Draft {
+    Fixed(Item),
+    Jump(BlockId),
+    Near(Test, X, X, BlockId),
 }

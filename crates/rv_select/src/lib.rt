@@ -12,10 +12,14 @@ mod item;
 mod laws;
 mod pieces;
 mod selecting;
+mod settling;
 
 pub use code::Code;
 pub use faults::{Cause, NoSize, SelectFault};
 pub use item::Item;
-pub use laws::{sums_are_carried_out, sums_are_refined, worked_codes};
+pub use laws::{
+    branches_settle, calls_are_paired, sums_are_carried_out, sums_are_refined, worked_branches,
+    worked_codes,
+};
 pub use pieces::{hi, lo};
 pub use selecting::{LARGEST_CODE, select};

@@ -1,12 +1,14 @@
-ghost use Rattle.std.specs.Prelude.{◌≡◌, ◌<◌, ◌≤◌, ◌+◌, ◌*◌, ◌++◌, All, OnOk, IfOk, IfErr, length, pos, ◌-ℤ◌, slice_index_or};
+ghost use Rattle.std.specs.Prelude.{◌≡◌, ◌<◌, ◌≤◌, ◌+◌, ◌*◌, ◌++◌, ◌∷◌, [], true, false, All, OnOk, IfOk, IfErr, length};
 ghost use Rattle.std.specs.List.{flat_map};
 ghost use Rattle.ir_core.specs.WellFormed.{IsWellFormed};
-ghost use Rattle.rv_isa.specs.Words.{IsSigned, IsEven};
-ghost use Rattle.rv_select.specs.Pending.{IsPending, IsItem, item_at, items_from};
+ghost use Rattle.frame_layout.specs.declared.laying.TheConstants.{LARGEST_FRAME};
+ghost use Rattle.frame_layout.specs.Frame.{frame};
+ghost use Rattle.rv_select.specs.Branches.{is_long, count_true, place};
+ghost use Rattle.rv_select.specs.Pending.{branch, opposite, distance, jump, branch_items, draft_items};
 ghost use Rattle.rv_select.specs.Lowered.{instr, block, blocks_from, prologue, keep_parameters, HasFewArguments};
 ghost use Rattle.rv_select.specs.Incoming.{HasIncoming};
-ghost use Rattle.rv_select.specs.Heads.{HasFewIn, heads_from, offset_in, IsTooLong};
-ghost use Rattle.rv_select.specs.Code.{code, code_with, code_bytes, IsRefused};
+ghost use Rattle.rv_select.specs.Heads.{HasFewIn, heads_from, head_in, IsTooLong};
+ghost use Rattle.rv_select.specs.Code.{code, code_with, code_bytes, items_of, IsRefused};
 
 use crate::builder::CodeBuilder;
 use crate::code::Code;
@@ -14,8 +16,9 @@ use crate::ends::{push_before_end, push_end, push_head};
 use crate::faults::{Cause, NoSize, SelectFault};
 use crate::incoming::Incoming;
 use crate::instrs::{push_instr, push_store};
-use crate::item::{Item, PendingItem};
+use crate::item::{Draft, Item, Test};
 use crate::pieces::push_open_frame;
+use crate::settling::{Choice, head, settle};
 use frame_layout::{Frame, FrameFault, layout};
 use ir_core::{FlatBlock, FlatBody, FlatInstr};
 use oi_base::{BlockId, NoMemory, RegId};
@@ -30,11 +33,16 @@ const MOST_ITEMS: usize = LARGEST_CODE / 4;
 
 /// The code of a body, by the table of the lowering.
 ///
+/// It takes time linear in the body and its code, and once more in the code for each round in which branches that do not
+/// reach their blocks become long. Only bodies made for it take more than a few rounds, and none takes more than it has
+/// branches.
+///
 /// It answers `Frame` where `layout` refuses the body's frame, and else `Code` where the code would have more than
 /// `LARGEST_CODE` bytes.
 pub fn select(alloc: Global, b: &FlatBody) -> Result<Code, SelectFault>
     requires { IsWellFormed b.now }
     ensures code { IfOk result (λ c. c ≡ code b.now) }
+    ensures frame { IfOk result (λ c. frame b.now ≤ LARGEST_FRAME) }
     ensures fits { IfOk result (λ c. code_bytes b.now ≤ LARGEST_CODE) }
     ensures refused { IfErr result (λ e. IsRefused b.now e) }
 {
@@ -56,18 +64,19 @@ pub fn with_frame(alloc: Global, b: &FlatBody, f: &Frame) -> Result<Code, Select
     ensures fits { IfOk result (λ c. 4 * length (code_with f.now b.now) ≤ LARGEST_CODE) }
     ensures refused { IfErr result (λ e. IsTooLong (4 * length (code_with f.now b.now)) e) }
 {
-    let mut pending = CodeBuilder::new(alloc);
-    push_prologue(&mut pending, f, b.params)?;
+    let mut code = CodeBuilder::new(alloc);
+    push_prologue(&mut code, f, b.params)?;
     let blocks = b.blocks.as_slice();
     let incoming = Incoming::of_blocks(alloc, blocks)?;
-    let heads = push_blocks(alloc, &mut pending, f, &incoming, blocks)?;
-    if pending.len() > MOST_ITEMS {
+    let heads = push_blocks(alloc, &mut code, f, &incoming, blocks)?;
+    let choice = settle(alloc, &heads, code.as_slice())?;
+    if choice.items() > MOST_ITEMS {
         return Err(SelectFault::NoSize(NoSize {
             cause: Cause::Code,
-            number: (pending.len() as u64).saturating_mul(4),
+            number: (choice.items() as u64).saturating_mul(4),
         }));
     }
-    let items = items(alloc, &heads, pending.as_slice())?;
+    let items = items(alloc, &heads, code.as_slice(), &choice)?;
     Ok(Code::of(items))
 }
 
@@ -90,7 +99,7 @@ fn push_parameters(code: &mut CodeBuilder, f: &Frame, params: u32) -> Result<(),
     Ok(())
 }
 
-/// Appends all blocks, and answers at which item each begins.
+/// Appends all blocks, and answers at which draft each begins.
 fn push_blocks(
     alloc: Global,
     code: &mut CodeBuilder,
@@ -140,53 +149,141 @@ fn push_instrs(code: &mut CodeBuilder, f: &Frame, instrs: &[FlatInstr]) -> Resul
     Ok(())
 }
 
-/// The item at which a block begins; one that is not there begins at the end.
-fn head(heads: &[usize], end: usize, to: BlockId) -> usize
-    ensures { result ≡ slice_index_or heads.now to.0 end }
-{
-    match heads.get(to.0 as usize) {
-        Some(head) => *head,
-        None => end,
-    }
-}
-
 /// The distance in bytes from one item to another.
-fn distance(to: usize, at: usize) -> i32
-    requires to { to ≤ MOST_ITEMS }
+fn distance(at: usize, to: usize) -> i32
     requires at { at ≤ MOST_ITEMS }
-    ensures value { result ≡ pos (4 * to) -ℤ pos (4 * at) }
-    ensures range { IsSigned 20 result }
-    ensures even { IsEven result }
+    requires to { to ≤ MOST_ITEMS }
+    ensures { result ≡ distance (4 * at) (4 * to) }
 {
     (4 * to) as i32 - (4 * at) as i32
 }
 
-/// The item that a pending one becomes.
-fn item(heads: &[usize], end: usize, at: usize, pending: PendingItem) -> Item
-    requires pending { IsPending pending }
-    requires end { end ≤ MOST_ITEMS }
+fn push_jump(items: &mut Vec<Item>, at: usize, to: usize) -> Result<(), NoMemory>
     requires at { at ≤ MOST_ITEMS }
-    requires heads { All (λ h. h ≤ end) heads.now }
-    ensures value { result ≡ item_at (offset_in heads.now end) (4 * at) pending }
-    ensures item { IsItem result }
+    requires to { to ≤ MOST_ITEMS }
+    ensures { OnOk result (items.new.items ≡ items.old.items ++ jump (4 * at) (4 * to) ∷ []) }
 {
-    match pending.to {
-        Some(to) => Item::Word(Rv::Jal(X::ZERO, distance(head(heads, end, to), at))),
-        None => pending.item,
+    items.push(Item::Word(Rv::Jal(X::ZERO, distance(at, to))))?;
+    Ok(())
+}
+
+fn branch(test: Test, r: X, q: X, distance: i32) -> Rv
+    ensures { result ≡ branch test r q distance }
+{
+    match test {
+        Test::Equal => Rv::Beq(r, q, distance),
+        Test::NotEqual => Rv::Bne(r, q, distance),
     }
 }
 
-/// The items that these pending ones become, with the distances of their jumps.
-fn items(alloc: Global, heads: &[usize], pending: &[PendingItem]) -> Result<Vec<Item>, NoMemory>
-    requires few { length pending.now ≤ MOST_ITEMS }
-    requires pending { All IsPending pending.now }
-    requires heads { All (λ h. h ≤ length pending.now) heads.now }
-    ensures value { IfOk result (λ items. items.items ≡ items_from (offset_in heads.now (length pending.now)) 0 pending.now) }
-    ensures items { IfOk result (λ items. All IsItem items.items) }
+fn opposite(test: Test) -> Test
+    ensures { result ≡ opposite test }
+{
+    match test {
+        Test::Equal => Test::NotEqual,
+        Test::NotEqual => Test::Equal,
+    }
+}
+
+/// Appends a short branch.
+fn push_short(
+    items: &mut Vec<Item>,
+    test: Test,
+    r: X,
+    q: X,
+    at: usize,
+    to: usize,
+) -> Result<(), NoMemory>
+    requires at { at ≤ MOST_ITEMS }
+    requires to { to ≤ MOST_ITEMS }
+    ensures { OnOk result (items.new.items ≡ items.old.items ++ branch_items false test r q (4 * at) (4 * to)) }
+{
+    items.push(Item::Word(branch(test, r, q, distance(at, to))))?;
+    Ok(())
+}
+
+/// Appends a long branch.
+fn push_long(
+    items: &mut Vec<Item>,
+    test: Test,
+    r: X,
+    q: X,
+    at: usize,
+    to: usize,
+) -> Result<(), NoMemory>
+    requires at { at < MOST_ITEMS }
+    requires to { to ≤ MOST_ITEMS }
+    ensures { OnOk result (items.new.items ≡ items.old.items ++ branch_items true test r q (4 * at) (4 * to)) }
+{
+    items.push(Item::Word(branch(opposite(test), r, q, 8)))?;
+    push_jump(items, at + 1, to)
+}
+
+/// Appends a branch, as this draft, to a block.
+fn push_branch(
+    items: &mut Vec<Item>,
+    choice: &Choice,
+    k: usize,
+    test: Test,
+    r: X,
+    q: X,
+    to: usize,
+) -> Result<(), NoMemory>
+    requires few { length choice.now + count_true choice.now ≤ MOST_ITEMS }
+    requires within { k < length choice.now }
+    requires to { to ≤ length choice.now }
+    ensures { OnOk result (items.new.items ≡ items.old.items ++ branch_items (is_long choice.now k) test r q (place choice.now k) (place choice.now to)) }
+{
+    if choice.is_long(k) {
+        push_long(items, test, r, q, choice.item(k), choice.item(to))
+    } else {
+        push_short(items, test, r, q, choice.item(k), choice.item(to))
+    }
+}
+
+/// Appends the items of a draft, of these drafts.
+fn push_items(
+    items: &mut Vec<Item>,
+    heads: &[usize],
+    drafts: &[Draft],
+    choice: &Choice,
+    k: usize,
+    draft: Draft,
+) -> Result<(), NoMemory>
+    requires same { length drafts.now ≡ length choice.now }
+    requires few { length drafts.now + count_true choice.now ≤ MOST_ITEMS }
+    requires within { k < length drafts.now }
+    requires heads { All (λ h. h ≤ length drafts.now) heads.now }
+    ensures { OnOk result (items.new.items ≡ items.old.items ++ draft_items (λ n. place choice.now (head_in heads.now (length drafts.now) n)) (is_long choice.now k) (place choice.now k) draft) }
+{
+    let end = drafts.len();
+    match draft {
+        Draft::Fixed(item) => {
+            items.push(item)?;
+            Ok(())
+        }
+        Draft::Jump(to) => { push_jump(items, choice.item(k), choice.item(head(heads, end, to))) }
+        Draft::Near(test, r, q, to) => {
+            push_branch(items, choice, k, test, r, q, head(heads, end, to))
+        }
+    }
+}
+
+/// The items that these drafts become, under a choice of long branches.
+fn items(
+    alloc: Global,
+    heads: &[usize],
+    drafts: &[Draft],
+    choice: &Choice,
+) -> Result<Vec<Item>, NoMemory>
+    requires same { length drafts.now ≡ length choice.now }
+    requires few { length drafts.now + count_true choice.now ≤ MOST_ITEMS }
+    requires heads { All (λ h. h ≤ length drafts.now) heads.now }
+    ensures { IfOk result (λ items. items.items ≡ items_of (head_in heads.now (length drafts.now)) choice.now drafts.now) }
 {
     let mut items = Vec::new(alloc);
-    for (at, one) in pending.iter().enumerate() {
-        items.push(item(heads, pending.len(), at, *one))?;
+    for (k, draft) in drafts.iter().enumerate() {
+        push_items(&mut items, heads, drafts, choice, k, *draft)?;
     }
     Ok(items)
 }

@@ -4,11 +4,11 @@ use Rattle.std.proofs.lemmas.List.{append-nil}
 use Rattle.std.proofs.lemmas.Option.{slice_get_past}
 use Rattle.ir_core.specs.declared.flat.FlatBlock.{FlatBlock}
 use Rattle.frame_layout.specs.Offsets.{Offsets}
-use Rattle.rv_select.specs.declared.item.PendingItem.{PendingItem}
+use Rattle.rv_select.specs.declared.item.Draft.{Draft}
 use Rattle.rv_select.specs.Lowered.{give_phi, give_phis, phis_of}
 use Rattle.rv_select.proofs.ends.push_give_to.Goals as goal
 
-nothing : (code : List PendingItem) (f : Offsets) (blocks : List FlatBlock) (n to : ℕ) → length blocks ≤ to → code ≡ code ++ give_phis f blocks n to
+nothing : (code : List Draft) (f : Offsets) (blocks : List FlatBlock) (n to : ℕ) → length blocks ≤ to → code ≡ code ++ give_phis f blocks n to
 nothing code f blocks n to past = sym (append-nil code) ∙ ap (λ k. code ++ flat_map (give_phi f n) (phis_of k)) (sym (slice_get_past blocks to past))
 
 pub returns-in-None : goal.returns-in-None

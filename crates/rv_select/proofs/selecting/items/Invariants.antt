@@ -1,8 +1,9 @@
-use Rattle.std.proofs.Common.{◌≡◌, ◌*◌, ◌++◌, All, drop, length}
-use Rattle.rv_select.specs.Pending.{IsItem, items_from}
-use Rattle.rv_select.specs.Heads.{offset_in}
+use Rattle.std.proofs.Common.{◌≡◌, ◌++◌, drop, length}
+use Rattle.rv_select.specs.Branches.{place}
+use Rattle.rv_select.specs.Pending.{items_from}
+use Rattle.rv_select.specs.Heads.{head_in}
+use Rattle.rv_select.specs.Code.{items_of}
 use Rattle.rv_select.proofs.selecting.items.Given as goal
 
-abbrev pub invariant-loop-at : goal.invariant-loop-at
-invariant-loop-at l =
-    (l.items.items ++ items_from (offset_in l.heads (length l.pending)) (4 * l.at) (drop l.at l.pending) ≡ items_from (offset_in l.heads (length l.pending)) 0 l.pending) × All IsItem l.items.items
+abbrev pub invariant-loop-k : goal.invariant-loop-k
+invariant-loop-k l = l.items.items ++ items_from (λ n. place l.choice (head_in l.heads (length l.drafts) n)) l.choice l.k (drop l.k l.drafts) ≡ items_of (head_in l.heads (length l.drafts)) l.choice l.drafts
