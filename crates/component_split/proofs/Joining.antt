@@ -87,6 +87,6 @@ pub drop_all : (xs : List ℕ) → drop (length xs) xs ≡ []
 drop_all [] = refl
 drop_all (x ∷ xs) = drop_all xs
 
--- from behind, the next site comes first
+-- the site before a place comes first in what is left from there on
 pub drop_next : (xs : List ℕ) (i : ℕ) → 0 < i → i ≤ length xs → drop (i - 1) xs ≡ slice_index xs (i - 1) ∷ drop i xs
 drop_next xs i z l = let j : suc (i - 1) ≡ i = omega arith in drop-cons xs (i - 1) 0 (omega arith) ∙ ap (λ m. slice_index xs (i - 1) ∷ drop m xs) j

@@ -13,3 +13,7 @@ pub mod Choosing
 pub mod Trees
 pub mod Grown
 pub mod ClosedSets
+pub mod OnCycles
+pub mod ArcLists
+pub mod Agreeing
+pub mod Held

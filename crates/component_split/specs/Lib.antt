@@ -6,3 +6,5 @@ pub mod Over
 pub mod Classes
 pub mod Members
 pub mod States
+pub mod Arcs
+pub mod Walk

@@ -1,7 +1,7 @@
 -- Call graphs, partial maps, sets and marks as the search sees them.
 use Rattle.std.specs.Prelude.{◌≡◌, ℕ, ◌+◌, ◌-◌, ◌^◌, ◌<◌, true, List, [], ◌∷◌, if◌then◌else◌, length, map, Option, Some, None, slice_get, slice_index}
 use Rattle.std.specs.List.{filter, All}
-use Rattle.std.specs.Option.{option_map_or}
+use Rattle.std.specs.Option.{IsSome, option_map_or}
 use Rattle.oi_base.specs.declared.ids.SiteId.{SiteId}
 use Rattle.oi_base.specs.declared.ids.FuncId.{FuncId}
 use Rattle.call_graph.specs.declared.facts.FuncFacts.{FuncFacts}
@@ -43,6 +43,10 @@ labels p s = keep_unless (label_of p (record { 0 = s }))
 -- a map over the candidates of a call graph
 abbrev pub IsMapOver : Graph → List (SiteId × Option Label) → Type 0
 IsMapOver g p = sites_of p ≡ candidate_ids g
+
+-- a map that holds each candidate inside a set
+abbrev pub HoldsInside : Graph → List ℕ × List ℕ → List (SiteId × Option Label) → Type 0
+HoldsInside g s p = (x : SiteId) → has (site_graph g).sites x.0 ≡ true → inside (site_graph g) s.0 x.0 ≡ true → IsSome (label_of p x)
 
 -- the reached functions of a call graph, from function n on
 abbrev pub reached_from : ℕ → List FuncFacts → List ℕ

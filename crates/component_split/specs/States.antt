@@ -1,15 +1,15 @@
 -- States of the search that wait to be counted, and their trees.
-use Rattle.std.specs.Prelude.{ℕ, ◌+◌, Bool, true, false, List, [], ◌∷◌, map}
+use Rattle.std.specs.Prelude.{◌≡◌, ℕ, ◌+◌, Bool, true, false, List, [], ◌∷◌, map}
 use Rattle.call_graph.specs.Graph.{Graph, candidate_ids}
 use Rattle.decisions.specs.declared.maps.Label.{Label}
 use Rattle.decisions.specs.declared.maps.Label.TheVariants.{Keep, Inline}
 use Rattle.decisions.specs.Maps.{undecided}
 use Rattle.component_split.specs.declared.count.State.{State}
-use Rattle.component_split.specs.Graph.{SiteGraph, Labels, with_label}
+use Rattle.component_split.specs.Graph.{SiteGraph, Labels, with_label, has, inside}
 use Rattle.component_split.specs.Split.{components}
 use Rattle.component_split.specs.Chosen.{chosen}
 use Rattle.component_split.specs.Tree.{Tree, nodes, is_decided, is_several, IsTree}
-use Rattle.component_split.specs.Over.{site_graph, labels, reached_from, IsSetOf, IsMapOver}
+use Rattle.component_split.specs.Over.{site_graph, labels, reached_from, IsSetOf, HoldsInside}
 
 -- the labels of a call graph where each candidate is undecided
 abbrev pub none_decided : Graph → Labels
@@ -47,6 +47,20 @@ children_by false false split branch = branch
 abbrev pub children : SiteGraph → Point → List Point
 children g x = children_by (is_decided g x.0 x.1) (is_several g x.0 x.1) (map (λ (c : List ℕ). (x.0, c)) (components g x.0 x.1)) ((with_label x.0 (chosen g x.0 x.1) Keep, x.1) ∷ (with_label x.0 (chosen g x.0 x.1) Inline, x.1) ∷ [])
 
+-- labels agree at the sites inside a set
+abbrev pub AgreeInside : SiteGraph → List ℕ → Labels → Labels → Type 0
+AgreeInside g fs p q = (s : ℕ) → has g.sites s ≡ true → inside g fs s ≡ true → p s ≡ q s
+
+-- one set, and labels that agree inside it
+abbrev pub SamePoint : SiteGraph → Point → Point → Type 0
+SamePoint g x y = (x.1 ≡ y.1) × AgreeInside g x.1 x.0 y.0
+
+abbrev pub SamePoints : SiteGraph → List Point → List Point → Type 0
+SamePoints g [] [] = Unit {0}
+SamePoints g [] (y ∷ ys) = ⊥
+SamePoints g (x ∷ xs) [] = ⊥
+SamePoints g (x ∷ xs) (y ∷ ys) = SamePoint g x y × SamePoints g xs ys
+
 -- a state over a call graph
 abbrev pub IsStateOf : Graph → State → Type 0
-IsStateOf g s = IsSetOf g s.set × IsMapOver g s.partial
+IsStateOf g s = IsSetOf g s.set × HoldsInside g s.set s.partial

@@ -1,11 +1,14 @@
 //! Components of sets of functions, the site on which the search branches, and how many nodes its tree has.
 #![tactic(auto)]
 
+mod arcs;
 mod choice;
 mod classes;
 mod count;
+mod cycles;
 mod laws;
 mod marks;
+mod orientation;
 mod parts;
 mod places;
 mod sets;

@@ -1,7 +1,7 @@
 ghost use Rattle.std.specs.Prelude.{◌≡◌, ◌≤◌, length, IfOk, Some};
 ghost use Rattle.component_split.specs.Split.{is_bridge};
 ghost use Rattle.component_split.specs.Classes.{AreParents, AreApart};
-ghost use Rattle.component_split.specs.Over.{site_graph, labels, IsSetOf, IsMapOver, IsMarksOf};
+ghost use Rattle.component_split.specs.Over.{site_graph, labels, IsSetOf, HoldsInside, IsMarksOf};
 
 use crate::classes::{numbers, part};
 use crate::sets::FuncSet;
@@ -17,6 +17,8 @@ use std::marker::Model;
 pub struct Marks {
     pub(crate) parents: Vec<usize>,
     pub(crate) degrees: Vec<usize>,
+    /// Where the room for walks comes from.
+    pub(crate) alloc: Global,
 }
 
 impl Model for Marks {
@@ -38,15 +40,16 @@ impl Marks {
         Ok(Marks {
             parents: numbers(alloc, g.funcs() as usize)?,
             degrees: numbers(alloc, g.funcs() as usize)?,
+            alloc,
         })
     }
 }
 
 /// Whether the set without the site has several components. Where the set is connected and the site is inside it, this
-/// is whether removing the site disconnects it.
+/// is whether removing the site disconnects it. Its condition on the map is that it holds each candidate inside the set.
 pub fn is_bridge(g: &CallGraph, p: &Partial, s: &FuncSet, site: SiteId, marks: &mut Marks) -> bool
     requires set { IsSetOf g.now s.now }
-    requires map { IsMapOver g.now p.now }
+    requires map { HoldsInside g.now s.now p.now }
     requires marks { IsMarksOf g.now marks.old }
     ensures bridge { result ≡ is_bridge (site_graph g.now) (labels p.now) s.now.0 site.0 }
     ensures marks { marks.new ≡ marks.old }

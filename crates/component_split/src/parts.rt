@@ -4,7 +4,7 @@ ghost use Rattle.component_split.specs.Graph.{has, inside, SiteGraph, Labels};
 ghost use Rattle.component_split.specs.Split.{components, lowest};
 ghost use Rattle.component_split.specs.Classes.{AreComponentsOf, AreParents};
 ghost use Rattle.component_split.specs.Members.{funcs_in, is_head, is_of, AreLows, HaveHeads, IsComponentOf, joined_by, put_at};
-ghost use Rattle.component_split.specs.Over.{func_numbers, site_numbers, site_graph, labels, IsRising, IsSetOf, IsMapOver, IsCandidateNumber, AreSitesInside};
+ghost use Rattle.component_split.specs.Over.{func_numbers, site_numbers, site_graph, labels, IsRising, IsSetOf, HoldsInside, IsCandidateNumber, AreSitesInside};
 
 use crate::classes::{find, numbers};
 use crate::places::place_in;
@@ -26,10 +26,10 @@ pub struct Member {
 }
 
 /// The components of a set under a partial map: functions are joined by the sites inside the set that aren't kept, in
-/// either direction.
+/// either direction. Its condition on the map is that it holds each candidate inside the set.
 pub fn components(alloc: Global, g: &CallGraph, p: &Partial, s: &FuncSet) -> Result<Parts, NoMemory>
     requires set { IsSetOf g.now s.now }
-    requires map { IsMapOver g.now p.now }
+    requires map { HoldsInside g.now s.now p.now }
     ensures parts { IfOk result (λ parts. map (λ (c : List ℕ × List ℕ). c.0) parts.items ≡ components (site_graph g.now) (labels p.now) s.now.0) }
     ensures sets { IfOk result (λ parts. All (λ c. IsSetOf g.now c) parts.items) }
 {
@@ -79,7 +79,7 @@ fn heads_of(alloc: Global, members: &[Member]) -> Result<Vec<FuncId>, NoMemory>
 }
 
 /// An empty list for each head.
-fn empty_lists<T: Drop>(alloc: Global, count: usize) -> Result<Vec<Items<T>>, NoMemory>
+pub(crate) fn empty_lists<T: Drop>(alloc: Global, count: usize) -> Result<Vec<Items<T>>, NoMemory>
     ensures { IfOk result (λ lists. lists.items ≡ replicate count []) }
 {
     let mut lists = Vec::new(alloc);
@@ -90,7 +90,7 @@ fn empty_lists<T: Drop>(alloc: Global, count: usize) -> Result<Vec<Items<T>>, No
 }
 
 /// Puts an element at the end of one of the lists.
-fn put<T: Drop>(lists: &mut Vec<Items<T>>, at: usize, item: T) -> Result<(), NoMemory>
+pub(crate) fn put<T: Drop>(lists: &mut Vec<Items<T>>, at: usize, item: T) -> Result<(), NoMemory>
     requires { at < length lists.old.items }
     ensures { OnOk result (lists.new.items ≡ put_at at item lists.old.items) }
 {

@@ -1,7 +1,8 @@
 ghost use Rattle.std.specs.Prelude.{◌≡◌, ◌<◌, false, true, length, slice_index, IfSome, IfNone};
 ghost use Rattle.component_split.specs.Graph.{has, inside};
-ghost use Rattle.component_split.specs.Over.{func_numbers, site_graph, IsRising, IsCandidateNumber};
+ghost use Rattle.component_split.specs.Over.{func_numbers, site_graph, caller_of, callee_of, IsRising, IsCandidateNumber};
 
+use crate::states::Ends;
 use call_graph::CallGraph;
 use oi_base::{FuncId, SiteId};
 
@@ -43,4 +44,20 @@ pub fn is_inside(g: &CallGraph, funcs: &[FuncId], site: SiteId) -> bool
     ensures { result ≡ inside (site_graph g.now) (func_numbers funcs.now) site.0 }
 {
     is_among(funcs, g.caller(site)) && is_among(funcs, g.callee(site))
+}
+
+/// Where both functions of a candidate stand that is inside a set.
+pub fn ends_among(g: &CallGraph, funcs: &[FuncId], site: SiteId) -> Ends
+    requires rising { IsRising (func_numbers funcs.now) }
+    requires candidate { IsCandidateNumber g.now site.0 }
+    requires inside { inside (site_graph g.now) (func_numbers funcs.now) site.0 ≡ true }
+    ensures caller_in { result.caller < length funcs.now }
+    ensures callee_in { result.callee < length funcs.now }
+    ensures caller { slice_index (func_numbers funcs.now) result.caller ≡ caller_of g.now site.0 }
+    ensures callee { slice_index (func_numbers funcs.now) result.callee ≡ callee_of g.now site.0 }
+{
+    Ends {
+        caller: place_in(funcs, g.caller(site)),
+        callee: place_in(funcs, g.callee(site)),
+    }
 }

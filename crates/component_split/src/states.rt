@@ -1,13 +1,13 @@
-ghost use Rattle.std.specs.Prelude.{◌≡◌, Some};
+ghost use Rattle.std.specs.Prelude.{◌≡◌, Some, IsSome};
 ghost use Rattle.decisions.specs.Maps.{label_of};
 ghost use Rattle.component_split.specs.Graph.{is_open, joins};
-ghost use Rattle.component_split.specs.Over.{caller_of, callee_of, labels, IsMapOver, IsCandidateNumber};
+ghost use Rattle.component_split.specs.Over.{caller_of, callee_of, labels, IsCandidateNumber};
 
 use call_graph::CallGraph;
 use decisions::{Label, Partial};
 use oi_base::SiteId;
 
-/// The functions of a site, as positions.
+/// The functions of a site, as positions among those of the module or of a set.
 #[derive(Clone, Copy)]
 pub struct Ends {
     pub caller: usize,
@@ -26,10 +26,9 @@ pub fn ends_of(g: &CallGraph, site: SiteId) -> Ends
     }
 }
 
-/// Whether a candidate isn't kept.
-pub fn joins(g: &CallGraph, p: &Partial, site: SiteId) -> bool
-    requires map { IsMapOver g.now p.now }
-    requires candidate { IsCandidateNumber g.now site.0 }
+/// Whether a site that the map holds isn't kept.
+pub fn joins(p: &Partial, site: SiteId) -> bool
+    requires { IsSome (label_of p.now site) }
     ensures { result ≡ joins (labels p.now site.0) }
 {
     match p.get(site) {
@@ -39,10 +38,9 @@ pub fn joins(g: &CallGraph, p: &Partial, site: SiteId) -> bool
     }
 }
 
-/// Whether a candidate is undecided.
-pub fn is_open(g: &CallGraph, p: &Partial, site: SiteId) -> bool
-    requires map { IsMapOver g.now p.now }
-    requires candidate { IsCandidateNumber g.now site.0 }
+/// Whether a site that the map holds is undecided.
+pub fn is_open(p: &Partial, site: SiteId) -> bool
+    requires { IsSome (label_of p.now site) }
     ensures { result ≡ is_open (labels p.now site.0) }
 {
     p.get(site).is_none()

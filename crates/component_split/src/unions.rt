@@ -1,10 +1,11 @@
-ghost use Rattle.std.specs.Prelude.{◌≡◌, ◌≤◌, true, length};
+ghost use Rattle.std.specs.Prelude.{◌≡◌, ◌≤◌, true, length, IsSome};
+ghost use Rattle.decisions.specs.Maps.{label_of};
 ghost use Rattle.component_split.specs.Graph.{has, inside, joins};
 ghost use Rattle.component_split.specs.Classes.{AreApart, AreComponentsOf, JoinsEnds, AreParents, kept_but, own_parents};
-ghost use Rattle.component_split.specs.Over.{func_numbers, site_numbers, site_graph, caller_of, callee_of, labels, IsRising, IsSetOf, IsMapOver, IsCandidateNumber};
+ghost use Rattle.component_split.specs.Over.{func_numbers, site_numbers, site_graph, caller_of, callee_of, labels, IsRising, IsSetOf, HoldsInside, IsCandidateNumber};
 
 use crate::classes::join;
-use crate::places::place_in;
+use crate::places::ends_among;
 use crate::sets::FuncSet;
 use crate::states::joins;
 use call_graph::CallGraph;
@@ -20,7 +21,7 @@ pub fn join_sites(
     but: Option<SiteId>,
 )
     requires set { IsSetOf g.now s.now }
-    requires map { IsMapOver g.now p.now }
+    requires map { HoldsInside g.now s.now p.now }
     requires apart { AreApart (length s.now.0) parents.old.items }
     ensures classes { AreComponentsOf (site_graph g.now) (kept_but (labels p.now) but) s.now.0 parents.new.items }
     ensures length { length parents.new.items ≡ length parents.old.items }
@@ -29,21 +30,20 @@ pub fn join_sites(
     while i > 0 {
         i -= 1;
         let site = s.sites[i];
-        if joins_but(g, p, site, but) {
+        if joins_but(p, site, but) {
             join_ends(parents, g, s.funcs.as_slice(), site);
         }
     }
 }
 
-/// Whether a candidate isn't kept, where one more site is kept.
-fn joins_but(g: &CallGraph, p: &Partial, site: SiteId, but: Option<SiteId>) -> bool
-    requires map { IsMapOver g.now p.now }
-    requires candidate { IsCandidateNumber g.now site.0 }
+/// Whether a site that the map holds isn't kept, where one more site is kept.
+fn joins_but(p: &Partial, site: SiteId, but: Option<SiteId>) -> bool
+    requires { IsSome (label_of p.now site) }
     ensures { result ≡ joins (kept_but (labels p.now) but site.0) }
 {
     match but {
-        Some(kept) => kept.0 != site.0 && joins(g, p, site),
-        None => joins(g, p, site),
+        Some(kept) => kept.0 != site.0 && joins(p, site),
+        None => joins(p, site),
     }
 }
 
@@ -56,9 +56,8 @@ fn join_ends(parents: &mut Vec<usize>, g: &CallGraph, funcs: &[FuncId], site: Si
     requires inside { inside (site_graph g.now) (func_numbers funcs.now) site.0 ≡ true }
     ensures { JoinsEnds (func_numbers funcs.now) (caller_of g.now site.0) (callee_of g.now site.0) parents.old.items parents.new.items }
 {
-    let from = place_in(funcs, g.caller(site));
-    let to = place_in(funcs, g.callee(site));
-    join(parents, from, to);
+    let ends = ends_among(g, funcs, site);
+    join(parents, ends.caller, ends.callee);
 }
 
 /// How many of the first numbers are their own parents.

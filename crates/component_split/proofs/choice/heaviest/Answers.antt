@@ -19,11 +19,11 @@ loop-site-init c = record {
   within = tt;
 }
 
-pub is_open-requires-clause-candidate : goal.is_open-requires-clause-candidate
-is_open-requires-clause-candidate c =
+pub is_open-requires : goal.is_open-requires
+is_open-requires c =
     let inner : site_numbers c.deref-site-items.result.now ≡ c.args.s.now.1 = ap site_numbers c.deref-site-items.ensures.value ∙ ap (λ (v : List ℕ × List ℕ). v.1) c.s.view_is in
     let at = site_at c.args.g.now c.args.s.now c.requires.set c.deref-site-items.result.now inner c.loop-site.site-index (record { 0 = 0 }) c.loop-site-test.true in
-    at.candidate
+    c.requires.map (get_or c.deref-site-items.result.now c.loop-site.site-index (record { 0 = 0 })) at.candidate at.inside_it
 
 pub heavier-requires-clause-site : goal.heavier-requires-clause-site
 heavier-requires-clause-site c =

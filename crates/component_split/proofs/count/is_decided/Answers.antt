@@ -1,4 +1,4 @@
-use Rattle.std.proofs.Common.{◌≡◌, ℕ, List, [], true, false, length, drop, sym, ap, ◌∙◌, arith}
+use Rattle.std.proofs.Common.{get_or, ◌≡◌, ℕ, List, [], true, false, length, drop, sym, ap, ◌∙◌, arith}
 use Rattle.std.proofs.lemmas.List.{length-map}
 use Rattle.component_split.specs.Chosen.{open_of}
 use Rattle.component_split.specs.Tree.{is_empty}
@@ -10,11 +10,11 @@ use Rattle.component_split.proofs.count.is_decided.Goals as goal
 pub loop-site-init : goal.loop-site-init
 loop-site-init c = sym (open_of_set c.args.g.now (labels c.args.p.now) c.args.s.now c.requires.set)
 
-pub is_open-requires-clause-candidate : goal.is_open-requires-clause-candidate
-is_open-requires-clause-candidate c =
+pub is_open-requires : goal.is_open-requires
+is_open-requires c =
     let inner : site_numbers c.deref-site-items.result.now ≡ c.args.s.now.1 = ap site_numbers c.deref-site-items.ensures.value ∙ ap (λ (v : List ℕ × List ℕ). v.1) c.s.view_is in
     let at = site_at c.args.g.now c.args.s.now c.requires.set c.deref-site-items.result.now inner c.loop-site.site-index (record { 0 = 0 }) c.loop-site-test.true in
-    at.candidate
+    c.requires.map (get_or c.deref-site-items.result.now c.loop-site.site-index (record { 0 = 0 })) at.candidate at.inside_it
 
 pub returns-then-is_open : goal.returns-then-is_open
 returns-then-is_open c =

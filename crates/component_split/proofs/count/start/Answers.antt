@@ -1,11 +1,20 @@
-use Rattle.std.proofs.Common.{List, Option, ap, ◌∙◌}
-use Rattle.oi_base.specs.declared.ids.SiteId.{SiteId}
-use Rattle.call_graph.specs.Graph.{candidate_ids}
-use Rattle.decisions.specs.declared.maps.Label.{Label}
-use Rattle.decisions.specs.Maps.{sites_of, undecided}
-use Rattle.component_split.proofs.Trees.{undecided_sites}
+use Rattle.std.proofs.Common.{◌≡◌, ℕ, List, sym, ap, subst, ◌∙◌}
+use Rattle.component_split.specs.Over.{site_numbers, IsRising}
+use Rattle.component_split.proofs.ArcLists.{sites_rise}
+use Rattle.component_split.proofs.Held.{sites_ascend, undecided_holds, undecided_agree}
 use Rattle.component_split.proofs.count.start.Goals as goal
+
+pub start-requires : goal.start-requires
+start-requires c =
+    let numbers : site_numbers c.deref.result.now ≡ c.in_ok-set.set.1 = ap site_numbers c.deref.ensures.value ∙ ap (λ (v : List ℕ × List ℕ). v.1) c.set.view_is in
+    sites_ascend c.deref.result.now (subst IsRising (sym numbers) (sites_rise c.args.g.now c.in_ok-set.set c.in_ok-set.ensures.set))
 
 pub returns-clause-state : goal.returns-clause-state
 returns-clause-state c =
-    (c.in_ok-all.ensures.set, ap (λ (p : List (SiteId × Option Label)). sites_of p) (c.in_ok-start.ensures ∙ ap (λ (ids : List SiteId). undecided {L = Label} ids) c.candidates.ensures.value) ∙ undecided_sites (candidate_ids c.args.g.now))
+    let numbers : site_numbers c.deref.result.now ≡ c.in_ok-set.set.1 = ap site_numbers c.deref.ensures.value ∙ ap (λ (v : List ℕ × List ℕ). v.1) c.set.view_is in
+    (c.in_ok-set.ensures.set, undecided_holds c.args.g.now c.in_ok-set.set c.in_ok-set.ensures.set c.deref.result.now numbers c.in_ok-partial.partial (c.in_ok-partial.ensures {u = tt}))
+
+pub returns-clause-point : goal.returns-clause-point
+returns-clause-point c =
+    let numbers : site_numbers c.deref.result.now ≡ c.in_ok-set.set.1 = ap site_numbers c.deref.ensures.value ∙ ap (λ (v : List ℕ × List ℕ). v.1) c.set.view_is in
+    (c.in_ok-set.ensures.funcs, undecided_agree c.args.g.now c.in_ok-set.set c.in_ok-set.ensures.set c.deref.result.now numbers c.in_ok-partial.partial (c.in_ok-partial.ensures {u = tt}))

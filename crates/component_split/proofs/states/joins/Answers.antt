@@ -1,10 +1,7 @@
 use Rattle.std.proofs.Common.{Some, sym, ap, ◌∙◌}
 use Rattle.component_split.specs.Graph.{joins}
-use Rattle.component_split.proofs.Known.{is_held, label_is}
+use Rattle.component_split.proofs.Known.{label_is}
 use Rattle.component_split.proofs.states.joins.Goals as goal
-
-pub get-requires : goal.get-requires
-get-requires c = is_held c.args.g.now c.args.p.now c.requires.map c.args.site c.requires.candidate
 
 pub returns-in-Some-Keep : goal.returns-in-Some-Keep
 returns-in-Some-Keep c = sym (ap joins (label_is c.args.p.now c.args.site _ c.get.ensures ∙ c.in-Some-Keep.is ∙ ap Some c.in-Some-Keep.field-0-is))

@@ -25,12 +25,14 @@ loop-i-init c =
       within = omega (arith, n);
     }
 
-pub joins_but-requires-clause-candidate : goal.joins_but-requires-clause-candidate
-joins_but-requires-clause-candidate c =
+pub joins_but-requires : goal.joins_but-requires
+joins_but-requires c =
     let e : site_numbers c.s.inside.sites.items ≡ c.args.s.now.1 = ap (λ (v : List ℕ × List ℕ). v.1) c.s.view_is in
     let z = c.loop-i-test.true in let w = c.loop-i.invariant.within in
     let l : c.loop-i.i - 1 < length c.args.s.now.1 = omega (arith, z, w) in
-    subst (λ q. IsCandidateNumber c.args.g.now q) (number_at c.s.inside.sites.items c.args.s.now.1 e (c.loop-i.i - 1) c.index-site.result.now l c.index-site.ensures) (site_of_set c.args.g.now c.args.s.now c.requires.set (c.loop-i.i - 1) l).0
+    let q = number_at c.s.inside.sites.items c.args.s.now.1 e (c.loop-i.i - 1) c.index-site.result.now l c.index-site.ensures in
+    let at = site_of_set c.args.g.now c.args.s.now c.requires.set (c.loop-i.i - 1) l in
+    c.requires.map c.index-site.result.now (subst (λ q. IsCandidateNumber c.args.g.now q) q at.0) (subst (λ q. inside (site_graph c.args.g.now) c.args.s.now.0 q ≡ true) q at.1)
 
 pub join_ends-requires-clause-candidate : goal.join_ends-requires-clause-candidate
 join_ends-requires-clause-candidate c =
