@@ -2,3 +2,10 @@ pub mod Weights
 pub mod Weighed
 pub mod Starts
 pub mod SameSites
+pub mod Renewals
+pub mod Walks
+pub mod Tables
+pub mod Sites
+pub mod Forests
+pub mod Inlines
+pub mod Chains

@@ -5,3 +5,6 @@ pub mod SourceWeight
 pub mod Over
 pub mod Standing
 pub mod Starting
+pub mod Reaching
+pub mod Added
+pub mod Renewed

@@ -2,13 +2,17 @@ ghost use Rattle.std.specs.Option.{option_map};
 ghost use Rattle.std.specs.Prelude.{◌≡◌, ◌+◌, ◌≤◌, ◌<◌, length, Some, None, IfOk, is_ok, if◌then◌else◌, IsSome, slice_get};
 ghost use Rattle.ir_core.specs.declared.module.Module as modules;
 ghost use Rattle.call_graph.specs.Graph as graphs;
+ghost use Rattle.call_graph.specs.Graph.{SiteIs};
 ghost use Rattle.call_graph.specs.declared.facts.FuncFacts as func_facts;
+ghost use Rattle.call_graph.specs.declared.facts.SiteFacts as site_facts;
 ghost use Rattle.decisions.specs.declared.maps.Label.TheVariants.{Keep, Inline};
 ghost use Rattle.decisions.specs.Maps.{label_of, undecided, SetsOnly};
 ghost use Rattle.shapes.specs.Over.{IsGraphOf};
 ghost use Rattle.shapes.specs.Standing.{IsForest, tree_of, values, reached_count};
+ghost use Rattle.shapes.specs.Reaching.{reaching_count};
 ghost use Rattle.shapes.specs.Starting.{bare, bare_from};
 
+use crate::renewal::Inlining;
 use crate::shape::{Inlined, Shape};
 use call_graph::CallGraph;
 use decisions::{Label, Partial};
@@ -20,7 +24,7 @@ use std::rc::Rc;
 use std::sync::ledger::Ledger;
 
 /// A shape for each function of a graph, by its position, where the function is reached.
-type Table = Vec<Option<Rc<Shape>>>;
+pub(crate) type Table = Vec<Option<Rc<Shape>>>;
 
 /// The shapes of the reached functions, and the partial map for which they stand; an undecided site is not inlined. The
 /// table of the shapes is shared with forests in which they are the same.
@@ -71,6 +75,36 @@ impl Forest {
         Ok(Forest {
             partial: self.labelled(alloc, s, Label::Keep)?,
             table: self.table.clone()?,
+        })
+    }
+
+    /// The forest in which an undecided candidate is inlined. The functions that reach its caller by inline sites, the caller
+    /// too, have new shapes, each made once, after those of its callees; all other shapes are the old ones. The counter rises
+    /// by one for each new shape, and by no more where memory runs out. Time and memory are those of a copy of the map and of
+    /// the table, and of a walk over the sites that the old map inlines.
+    pub fn inline<K: Ledger>(
+        &self,
+        alloc: Global,
+        v: &Verified,
+        g: &CallGraph,
+        s: SiteId,
+        made: &mut Steps<K>,
+    ) -> Result<Forest, NoMemory>
+        requires graph { IsGraphOf v.now g.now }
+        requires forest { IsForest v.now g.now self.now }
+        requires undecided { label_of self.now.labels s ≡ Some None }
+        ensures forest { IfOk result (IsForest v.now g.now) }
+        ensures labels { IfOk result (λ x. SetsOnly self.now.labels x.labels s (Some Inline)) }
+        ensures ticks { (x : site_facts.SiteFacts) → SiteIs g.now s x → IfOk result (λ y. made.new ≡ made.old + reaching_count x.site.caller self.now.trees) }
+        ensures no_more { (x : site_facts.SiteFacts) → SiteIs g.now s x → made.new ≤ made.old + reaching_count x.site.caller self.now.trees }
+    {
+        let callee = self.shape(g.callee(s));
+        let inlining = Inlining::new(&self.table, s, g.caller(s), callee);
+        let table = inlining.shapes(alloc, v.module(), made)?;
+        let partial = self.labelled(alloc, s, Label::Inline)?;
+        Ok(Forest {
+            table: Rc::new(alloc, table)?,
+            partial,
         })
     }
 

@@ -2,8 +2,11 @@
 #![tactic(auto)]
 
 mod forest;
+mod laws;
+mod renewal;
 mod shape;
 mod weigh;
 
 pub use forest::Forest;
+pub use laws::{a_map_has_one_forest, trees_of_those_that_reach_are_counted};
 pub use shape::{Inlined, MOST_WEIGHT, Shape};
