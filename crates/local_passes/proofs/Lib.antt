@@ -1,0 +1,16 @@
+pub mod CopySteps
+pub mod Numbered
+pub mod CopySweeps
+pub mod Popped
+pub mod NeedMarks
+pub mod UseTables
+pub mod Needing
+pub mod NeedWalk
+pub mod WithOperands
+pub mod SourceLaws
+pub mod CopiesFormed
+pub mod Sublists
+pub mod DeadFormed
+pub mod CopyLaws
+pub mod NoCopies
+pub mod Rounds

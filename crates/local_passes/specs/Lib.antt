@@ -1,0 +1,5 @@
+pub mod CopyTables
+pub mod DropDead
+pub mod LocalCopies
+pub mod NeedTables
+pub mod Simplify
