@@ -1,6 +1,7 @@
 -- An executable image as contracts see it: the text, the data and the symbols.
 use Rattle.std.specs.Prelude.{◌≡◌, ◌≢◌, ℕ, ◌+◌, ◌*◌, ◌%◌, ◌<◌, ◌≤◌, List, [], ◌∷◌, ◌++◌, length, All, IsTrue}
 use Rattle.std.specs.List.{flat_map}
+use Rattle.rv_isa.specs.Memory.{Segments}
 use Rattle.elf_object.specs.declared.symbol.Symbol.{Symbol}
 use Rattle.elf_object.specs.declared.image.TheConstants.{LEAST_TEXT, LARGEST_TEXT, LARGEST_DATA, LARGEST_TABLES}
 
@@ -8,6 +9,10 @@ pub record Parts : Type 0 where
   pub text : List ℕ
   pub data_bytes : List ℕ
   pub symbols : List Symbol
+
+-- what is loaded of an image
+abbrev pub loaded_segments : Parts → Segments
+loaded_segments i = record { text = i.text; data_bytes = i.data_bytes }
 
 -- the string table: a zero byte, then each symbol's name with a zero byte after it
 abbrev pub string_table : List Symbol → List ℕ

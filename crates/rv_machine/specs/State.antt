@@ -1,6 +1,5 @@
 -- How a machine with room for so many put bytes stands, and its turns.
 use Rattle.std.specs.Prelude.{ℕ, ◌≡◌, ◌+◌, Bool, true, false, not, ◌&&◌, nat_lt, if◌then◌else◌, List, length}
-use Rattle.elf_object.specs.Image.{Parts}
 use Rattle.rv_isa.specs.Memory.{Segments}
 use Rattle.rv_isa.specs.Isa as isa
 use Rattle.rv_isa.specs.Isa.{step, loaded}
@@ -109,10 +108,6 @@ told_of (isa.BadCall number) = BadCall number
 
 abbrev pub told : Bounded → Stop
 told b = if b.full then OutputFull else told_of b.machine.stop
-
--- what is loaded of an image
-abbrev pub loaded_segments : Parts → Segments
-loaded_segments i = record { text = i.text; data_bytes = i.data_bytes }
 
 -- a state of the machine that was loaded with these segments stands as the bounded machine does
 pub record Stands (s : Segments) (st : State) (b : Bounded) : Type 0 where

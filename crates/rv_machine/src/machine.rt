@@ -6,7 +6,8 @@ ghost use Rattle.rv_isa.specs.Isa.{Exit, stopped, sets, got, called, executed, a
 ghost use Rattle.rv_machine.specs.Bytes.{size_of};
 ghost use Rattle.rv_machine.specs.Effects.{effect_of, extended};
 ghost use Rattle.rv_machine.specs.Memory.{segments_of, KeepsText};
-ghost use Rattle.rv_machine.specs.State.{Bounded, IsFault, advanced, bounded, machine_of, loaded_segments, started, stop_of, told, turned, Stands};
+ghost use Rattle.elf_object.specs.Image.{loaded_segments};
+ghost use Rattle.rv_machine.specs.State.{Bounded, IsFault, advanced, bounded, machine_of, started, stop_of, told, turned, Stands};
 ghost use Rattle.rv_machine.specs.declared.stop.Stop.TheVariants as halt;
 
 use crate::bytes::Size;

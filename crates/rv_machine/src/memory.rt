@@ -1,4 +1,5 @@
 ghost use Rattle.std.specs.Prelude.{◌≡◌, ◌+◌, ◌%◌, ◌≤◌, ◌<◌, ◌^◌, length, None, Some, IfOk, OnOk, IfErr};
+ghost use Rattle.elf_object.specs.Image.{loaded_segments};
 ghost use Rattle.rv_isa.specs.Memory.{Readable, Writable, Executable, read, write, bytes_at_load, text_start};
 ghost use Rattle.rv_machine.specs.Bytes.{size_of};
 ghost use Rattle.rv_machine.specs.Memory.{segments_of, bytes_of, refusal, unless_refused, fetched, IsPlaced, IsDecoded, KeepsText};
@@ -45,7 +46,7 @@ impl Model for Memory {
 impl Memory {
     /// The memory at load of an image.
     pub fn at_load(alloc: Global, image: &Image) -> Result<Memory, NoMemory>
-        ensures segments { IfOk result (λ m. segments_of m ≡ record { text = image.now.text; data_bytes = image.now.data_bytes }) }
+        ensures segments { IfOk result (λ m. segments_of m ≡ loaded_segments image.now) }
         ensures bytes { IfOk result (λ m. bytes_of m ≡ bytes_at_load (segments_of m)) }
     {
         let text = Vec::from_slice(alloc, image.text.as_slice())?;

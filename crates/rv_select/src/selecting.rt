@@ -4,7 +4,7 @@ ghost use Rattle.ir_core.specs.WellFormed.{IsWellFormed};
 ghost use Rattle.frame_layout.specs.declared.laying.TheConstants.{LARGEST_FRAME};
 ghost use Rattle.frame_layout.specs.Frame.{frame};
 ghost use Rattle.rv_select.specs.Branches.{is_long, count_true, place};
-ghost use Rattle.rv_select.specs.Pending.{branch, opposite, distance, jump, branch_items, draft_items};
+ghost use Rattle.rv_select.specs.Pending.{IsItem, branch, opposite, distance, jump, branch_items, draft_items};
 ghost use Rattle.rv_select.specs.Lowered.{instr, block, blocks_from, prologue, keep_parameters, HasFewArguments};
 ghost use Rattle.rv_select.specs.Incoming.{HasIncoming};
 ghost use Rattle.rv_select.specs.Heads.{HasFewIn, heads_from, head_in, IsTooLong};
@@ -44,6 +44,7 @@ pub fn select(alloc: Global, b: &FlatBody) -> Result<Code, SelectFault>
     ensures code { IfOk result (λ c. c ≡ code b.now) }
     ensures frame { IfOk result (λ c. frame b.now ≤ LARGEST_FRAME) }
     ensures fits { IfOk result (λ c. code_bytes b.now ≤ LARGEST_CODE) }
+    ensures items { IfOk result (λ c. All IsItem (code b.now)) }
     ensures refused { IfErr result (λ e. IsRefused b.now e) }
 {
     match layout(alloc, b) {
@@ -62,6 +63,7 @@ pub fn with_frame(alloc: Global, b: &FlatBody, f: &Frame) -> Result<Code, Select
     requires arguments { All HasFewIn b.now.blocks }
     ensures code { IfOk result (λ c. c ≡ code_with f.now b.now) }
     ensures fits { IfOk result (λ c. 4 * length (code_with f.now b.now) ≤ LARGEST_CODE) }
+    ensures items { IfOk result (λ c. All IsItem (code_with f.now b.now)) }
     ensures refused { IfErr result (λ e. IsTooLong (4 * length (code_with f.now b.now)) e) }
 {
     let mut code = CodeBuilder::new(alloc);

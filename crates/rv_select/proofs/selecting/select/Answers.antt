@@ -1,6 +1,6 @@
 use Rattle.rv_select.specs.declared.selecting.TheConstants.{LARGEST_CODE}
 use Rattle.frame_layout.specs.declared.laying.TheConstants.{LARGEST_FRAME}
-use Rattle.std.proofs.Common.{◌≡◌, ◌*◌, ◌<◌, ◌≤◌, ℕ, List, length, min, sym, ap, ◌∙◌, subst}
+use Rattle.std.proofs.Common.{◌≡◌, ◌*◌, ◌<◌, ◌≤◌, ℕ, List, All, length, min, sym, ap, ◌∙◌, subst}
 use Rattle.std.proofs.lemmas.Result.{IfOk-weaker, IfErr-weaker}
 use Rattle.ir_core.specs.declared.flat.FlatBody.{FlatBody}
 use Rattle.frame_layout.specs.Offsets.{Offsets}
@@ -9,6 +9,7 @@ use Rattle.rv_select.specs.declared.item.Item.{Item}
 use Rattle.rv_select.specs.declared.faults.Cause.{Cause}
 use Rattle.rv_select.specs.declared.faults.SelectFault.{SelectFault}
 use Rattle.rv_select.specs.declared.faults.SelectFault.TheVariants.{NoSize, NoMemory}
+use Rattle.rv_select.specs.Pending.{IsItem}
 use Rattle.rv_select.specs.Heads.{IsTooLong}
 use Rattle.rv_select.specs.Code.{code_with, code, code_bytes, IsTooMuch, IsRefused}
 use Rattle.rv_select.proofs.HeadOffsets.{few_in_body}
@@ -35,3 +36,6 @@ returns-in-Ok-clause-fits c = IfOk-weaker c.with_frame.result (λ is. 4 * length
 
 pub returns-in-Ok-clause-refused : goal.returns-in-Ok-clause-refused
 returns-in-Ok-clause-refused c = IfErr-weaker c.with_frame.result (IsTooLong (4 * length (code_with c.in-Ok.frame c.args.b.now))) (IsRefused c.args.b.now) (refused c.args.b.now c.in-Ok.frame c.in-Ok.ensures.frame c.in-Ok.ensures.fits) c.with_frame.ensures.refused
+
+pub returns-in-Ok-clause-items : goal.returns-in-Ok-clause-items
+returns-in-Ok-clause-items c = IfOk-weaker c.with_frame.result (λ is. All IsItem (code_with c.in-Ok.frame c.args.b.now)) (λ is. All IsItem (code c.args.b.now)) (λ is h. subst (λ (x : List Item). All IsItem x) (framed c.args.b.now c.in-Ok.frame c.in-Ok.ensures.frame) h) c.with_frame.ensures.items

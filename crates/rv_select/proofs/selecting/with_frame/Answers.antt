@@ -1,7 +1,8 @@
-use Rattle.std.proofs.Common.{◌≡◌, ℕ, Bool, List, All, length, min, refl, sym, ap, ap₂, ◌∙◌, subst, arith}
+use Rattle.std.proofs.Common.{◌≡◌, ◌≤◌, ◌*◌, ℕ, Bool, List, All, length, min, refl, sym, ap, ap₂, ◌∙◌, subst, arith}
 use Rattle.rv_select.specs.declared.item.Item.{Item}
 use Rattle.rv_select.specs.declared.item.Draft.{Draft}
 use Rattle.rv_select.specs.Branches.{settled}
+use Rattle.rv_select.specs.declared.selecting.TheConstants.{LARGEST_CODE}
 use Rattle.rv_select.specs.Pending.{IsItem, IsDraft}
 use Rattle.rv_select.specs.Heads.{head_in}
 use Rattle.rv_select.specs.Code.{items_of}
@@ -53,14 +54,23 @@ items-requires-2-clause-heads c =
     let heads = headed c.args.f.now c.args.b.now c.as_slice-blocks.result.now c.new-code.result c.push_prologue.new.code c.in_ok-heads.heads.items c.as_slice-blocks.ensures c.new-code.ensures c.in_ok-push_prologue.ensures c.in_ok-heads.ensures.heads in
     low_heads c.args.f.now c.args.b.now c.as_slice-2.result.now c.deref-2.result.now (c.as_slice-2.ensures.all ∙ whole) (c.deref-2.ensures.value ∙ heads)
 
-pub of-requires : goal.of-requires
-of-requires c =
+pub of-requires-clause-items : goal.of-requires-clause-items
+of-requires-clause-items c =
     let whole = drafted c.args.f.now c.args.b.now c.as_slice-blocks.result.now c.new-code.result c.push_prologue.new.code c.push_blocks.new.code c.as_slice-blocks.ensures c.new-code.ensures c.in_ok-push_prologue.ensures c.in_ok-heads.ensures.code in
     let heads = headed c.args.f.now c.args.b.now c.as_slice-blocks.result.now c.new-code.result c.push_prologue.new.code c.in_ok-heads.heads.items c.as_slice-blocks.ensures c.new-code.ensures c.in_ok-push_prologue.ensures c.in_ok-heads.ensures.heads in
     let chosen = settled_over c.deref.result.now c.in_ok-heads.heads.items c.as_slice.result.now c.push_blocks.new.code c.in_ok-choice.choice c.deref.ensures.value c.as_slice.ensures.all c.in_ok-choice.ensures in
     let items = items_over c.deref-2.result.now c.in_ok-heads.heads.items c.as_slice-2.result.now c.push_blocks.new.code c.in_ok-choice.choice c.in_ok-items.items.items c.deref-2.ensures.value c.as_slice-2.ensures.all c.in_ok-items.ensures in
     let are = subst (λ (ds : List Draft). All IsDraft ds) c.as_slice.ensures.all c.as_slice.ensures.drafts in
     subst (λ (is : List Item). All IsItem is) (sym items) (items_are c.args.f.now c.args.b.now c.push_blocks.new.code c.in_ok-heads.heads.items whole heads c.in_ok-choice.choice chosen (omega (arith, c.items.ensures, c.if-items-gt-MOST_ITEMS.false)) are)
+
+pub of-requires-clause-fits : goal.of-requires-clause-fits
+of-requires-clause-fits c =
+    let whole = drafted c.args.f.now c.args.b.now c.as_slice-blocks.result.now c.new-code.result c.push_prologue.new.code c.push_blocks.new.code c.as_slice-blocks.ensures c.new-code.ensures c.in_ok-push_prologue.ensures c.in_ok-heads.ensures.code in
+    let heads = headed c.args.f.now c.args.b.now c.as_slice-blocks.result.now c.new-code.result c.push_prologue.new.code c.in_ok-heads.heads.items c.as_slice-blocks.ensures c.new-code.ensures c.in_ok-push_prologue.ensures c.in_ok-heads.ensures.heads in
+    let chosen = settled_over c.deref.result.now c.in_ok-heads.heads.items c.as_slice.result.now c.push_blocks.new.code c.in_ok-choice.choice c.deref.ensures.value c.as_slice.ensures.all c.in_ok-choice.ensures in
+    let items = items_over c.deref-2.result.now c.in_ok-heads.heads.items c.as_slice-2.result.now c.push_blocks.new.code c.in_ok-choice.choice c.in_ok-items.items.items c.deref-2.ensures.value c.as_slice-2.ensures.all c.in_ok-items.ensures in
+    let same = code_is c.args.f.now c.args.b.now c.push_blocks.new.code c.in_ok-heads.heads.items whole heads c.in_ok-choice.choice c.in_ok-items.items.items chosen items in
+    subst (λ (is : List Item). 4 * length is ≤ LARGEST_CODE) (sym same) (omega (arith, count_is c.args.f.now c.args.b.now c.push_blocks.new.code c.in_ok-heads.heads.items whole heads c.in_ok-choice.choice chosen, c.items.ensures, c.if-items-gt-MOST_ITEMS.false))
 
 pub returns-clause-code : goal.returns-clause-code
 returns-clause-code c =
@@ -76,3 +86,13 @@ returns-clause-fits c =
     let heads = headed c.args.f.now c.args.b.now c.as_slice-blocks.result.now c.new-code.result c.push_prologue.new.code c.in_ok-heads.heads.items c.as_slice-blocks.ensures c.new-code.ensures c.in_ok-push_prologue.ensures c.in_ok-heads.ensures.heads in
     let chosen = settled_over c.deref.result.now c.in_ok-heads.heads.items c.as_slice.result.now c.push_blocks.new.code c.in_ok-choice.choice c.deref.ensures.value c.as_slice.ensures.all c.in_ok-choice.ensures in
     omega (arith, count_is c.args.f.now c.args.b.now c.push_blocks.new.code c.in_ok-heads.heads.items whole heads c.in_ok-choice.choice chosen, c.items.ensures, c.if-items-gt-MOST_ITEMS.false)
+
+pub returns-clause-items : goal.returns-clause-items
+returns-clause-items c =
+    let whole = drafted c.args.f.now c.args.b.now c.as_slice-blocks.result.now c.new-code.result c.push_prologue.new.code c.push_blocks.new.code c.as_slice-blocks.ensures c.new-code.ensures c.in_ok-push_prologue.ensures c.in_ok-heads.ensures.code in
+    let heads = headed c.args.f.now c.args.b.now c.as_slice-blocks.result.now c.new-code.result c.push_prologue.new.code c.in_ok-heads.heads.items c.as_slice-blocks.ensures c.new-code.ensures c.in_ok-push_prologue.ensures c.in_ok-heads.ensures.heads in
+    let chosen = settled_over c.deref.result.now c.in_ok-heads.heads.items c.as_slice.result.now c.push_blocks.new.code c.in_ok-choice.choice c.deref.ensures.value c.as_slice.ensures.all c.in_ok-choice.ensures in
+    let items = items_over c.deref-2.result.now c.in_ok-heads.heads.items c.as_slice-2.result.now c.push_blocks.new.code c.in_ok-choice.choice c.in_ok-items.items.items c.deref-2.ensures.value c.as_slice-2.ensures.all c.in_ok-items.ensures in
+    let are = subst (λ (ds : List Draft). All IsDraft ds) c.as_slice.ensures.all c.as_slice.ensures.drafts in
+    let same = code_is c.args.f.now c.args.b.now c.push_blocks.new.code c.in_ok-heads.heads.items whole heads c.in_ok-choice.choice c.in_ok-items.items.items chosen items in
+    subst (λ (is : List Item). All IsItem is) (sym items ∙ same) (items_are c.args.f.now c.args.b.now c.push_blocks.new.code c.in_ok-heads.heads.items whole heads c.in_ok-choice.choice chosen (omega (arith, c.items.ensures, c.if-items-gt-MOST_ITEMS.false)) are)
