@@ -11,8 +11,10 @@ pub mod Lengths
 pub mod Limits
 pub mod MainFormed
 pub mod MainFrame
+pub mod MainSums
 pub mod ModuleRuns
 pub mod NeverStuck
+pub mod Objects
 pub mod OneMain
 pub mod Placed
 pub mod PlainBody
@@ -20,4 +22,5 @@ pub mod Ranges
 pub mod Refined
 pub mod Refusals
 pub mod SameRuns
+pub mod SumBodies
 pub mod Writes

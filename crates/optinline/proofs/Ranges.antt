@@ -6,7 +6,7 @@ use Rattle.std.proofs.lemmas.List.Elements.{All-append, All-cons}
 use Rattle.rv_isa.specs.declared.rv.Rv.{Rv}
 use Rattle.rv_isa.specs.declared.rv.Rv.TheVariants as rv
 use Rattle.rv_isa.specs.Words.{InRange, IsSigned}
-use Rattle.rv_select.specs.Parts.{hi, lo, is_short, load_word, far_base, load_slot, store_slot, large_frame, frame_down, frame_up, open_frame, epilogue, stub}
+use Rattle.rv_select.specs.Parts.{hi, lo, is_short, load_word, far_base, load_slot, store_slot, load_home, large_frame, frame_down, frame_up, open_frame, epilogue, stub}
 use Rattle.optinline.specs.declared.body.Value.{Value}
 use Rattle.optinline.specs.declared.body.Value.TheVariants.{Reg, Word}
 use Rattle.optinline.specs.declared.body.Sum.{Sum}
@@ -29,13 +29,13 @@ small_signed n h = grind (arith, nat_tests, ints)
 down_signed : (n : ℕ) → n ≤ 2032 → IsSigned 11 (neg_ℤ (pos n))
 down_signed n h = grind (arith, nat_tests, ints)
 
-none : All InRange []
+pub none : All InRange []
 none k d h = absurd (omega arith)
 
-one : (i : Rv) → InRange i → All InRange (i ∷ [])
+pub one : (i : Rv) → InRange i → All InRange (i ∷ [])
 one i h = All-cons InRange i [] h none
 
-both : (a b : List Rv) → All InRange a → All InRange b → All InRange (a ++ b)
+pub both : (a b : List Rv) → All InRange a → All InRange b → All InRange (a ++ b)
 both a b h k = All-append InRange a b h k
 
 word_by : (r w : ℕ) (c d : Bool) → r < 32 → All InRange (if c then rv.Addi r 0 (lo w) ∷ [] else rv.Lui r (hi w) ∷ (if d then [] else rv.Addi r r (lo w) ∷ []))
@@ -43,7 +43,7 @@ word_by r w true d h = one (rv.Addi r 0 (lo w)) (h, omega arith, lo_signed w)
 word_by r w false true h = one (rv.Lui r (hi w)) (h, hi_signed w)
 word_by r w false false h = All-cons InRange (rv.Lui r (hi w)) (rv.Addi r r (lo w) ∷ []) (h, hi_signed w) (one (rv.Addi r r (lo w)) (h, h, lo_signed w))
 
-word_ranges : (r w : ℕ) → r < 32 → All InRange (load_word r w)
+pub word_ranges : (r w : ℕ) → r < 32 → All InRange (load_word r w)
 unfolding load_word
 word_ranges r w h = word_by r w (is_short w) (w % 4096 == 0) h
 
@@ -54,7 +54,7 @@ load_by : (r o : ℕ) (c : Bool) → nat_le o 2047 ≡ c → r < 32 → All InRa
 load_by r o true e h = one (rv.Lw r 2 (pos o)) (h, omega arith, small_signed o (grind (arith, nat_tests)))
 load_by r o false e h = both (far_base r o) (rv.Lw r r (lo o) ∷ []) (far_ranges r o h) (one (rv.Lw r r (lo o)) (h, h, lo_signed o))
 
-slot_ranges : (r o : ℕ) → r < 32 → All InRange (load_slot r o)
+pub slot_ranges : (r o : ℕ) → r < 32 → All InRange (load_slot r o)
 unfolding load_slot
 slot_ranges r o h = load_by r o (nat_le o 2047) refl h
 
@@ -62,9 +62,19 @@ store_by : (r o : ℕ) (c : Bool) → nat_le o 2047 ≡ c → r < 32 → All InR
 store_by r o true e h = one (rv.Sw 2 r (pos o)) (omega arith, h, small_signed o (grind (arith, nat_tests)))
 store_by r o false e h = both (far_base 7 o) (rv.Sw 7 r (lo o) ∷ []) (far_ranges 7 o (omega arith)) (one (rv.Sw 7 r (lo o)) (omega arith, h, lo_signed o))
 
-store_ranges : (r o : ℕ) → r < 32 → All InRange (store_slot r o)
+pub store_ranges : (r o : ℕ) → r < 32 → All InRange (store_slot r o)
 unfolding store_slot
 store_ranges r o h = store_by r o (nat_le o 2047) refl h
+
+home_by : (r o : ℕ) (c : Bool) → nat_le o 2047 ≡ c → r < 32 → All InRange (if c then rv.Addi r 2 (pos o) ∷ [] else rv.Lui r (hi o) ∷ rv.Addi r r (lo o) ∷ rv.Add r r 2 ∷ [])
+home_by r o true e h = one (rv.Addi r 2 (pos o)) (h, omega arith, small_signed o (grind (arith, nat_tests)))
+home_by r o false e h =
+    All-cons InRange (rv.Lui r (hi o)) (rv.Addi r r (lo o) ∷ rv.Add r r 2 ∷ []) (h, hi_signed o)
+    (All-cons InRange (rv.Addi r r (lo o)) (rv.Add r r 2 ∷ []) (h, h, lo_signed o) (one (rv.Add r r 2) (h, h, omega arith)))
+
+pub home_ranges : (r o : ℕ) → r < 32 → All InRange (load_home r o)
+unfolding load_home
+home_ranges r o h = home_by r o (nat_le o 2047) refl h
 
 large_ranges : (f : ℕ) → All InRange (large_frame f)
 large_ranges f = All-cons InRange (rv.Lui 5 (hi f)) (rv.Addi 5 5 (lo f) ∷ []) (omega arith, hi_signed f) (one (rv.Addi 5 5 (lo f)) (omega arith, omega arith, lo_signed f))

@@ -6,6 +6,7 @@ pub mod Layout
 pub mod Lowering
 pub mod MainBody
 pub mod Meaning
+pub mod Object
 pub mod Reply
 pub mod Unbuilt
 pub mod Words

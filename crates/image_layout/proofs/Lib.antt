@@ -1,0 +1,5 @@
+pub mod DataLaid
+pub mod Globals
+pub mod InitialBytes
+pub mod Laid
+pub mod TextLaid

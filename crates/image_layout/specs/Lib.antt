@@ -1,0 +1,5 @@
+pub mod Addresses
+pub mod DataBytes
+pub mod Symbols
+pub mod Image
+pub mod Codes

@@ -1,0 +1,6 @@
+//! The image of a module's codes: the text with all addresses filled in, the data and the symbols.
+#![tactic(auto)]
+
+mod laws;
+
+pub use laws::an_image_is_laid;
