@@ -24,4 +24,5 @@ mod verdict;
 
 pub use fault::RuleFault;
 pub use laws::a_module_has_one_verdict;
+pub use offsets::gep_offset;
 pub use verdict::verify;

@@ -119,7 +119,7 @@ module _ (m : Module) where
       (each count_fits (λ (i : TypedCount). FitsType i.ty i.count) count_decides is)
 
   mutual
-    init_decides : (c : Const) (t : IrType) → Decides (has_type Defs Names c t) (HasType m c t)
+    pub init_decides : (c : Const) (t : IrType) → Decides (has_type Defs Names c t) (HasType m c t)
     init_decides (consts.Int n) t = type_decides (plain Defs t) n
     init_decides (consts.Bool b) t = bit_decides (plain Defs t)
     init_decides consts.Null t = pointer_decides (plain Defs t)
