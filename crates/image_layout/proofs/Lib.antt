@@ -1,3 +1,4 @@
+pub mod Bounds
 pub mod DataLaid
 pub mod Globals
 pub mod InitialBytes

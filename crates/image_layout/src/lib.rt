@@ -3,4 +3,4 @@
 
 mod laws;
 
-pub use laws::an_image_is_laid;
+pub use laws::{an_image_is_laid, an_image_is_within_bounds};
