@@ -95,12 +95,12 @@ module _ (types : ℕ → Scalar) (funcs : ℕ → FuncType) (own : FuncType) (o
 
   -- ---- blocks
 
-  data Which (b : ℕ) (y : FlatBlock) : Type 0 where
+  pub data Which (b : ℕ) (y : FlatBlock) : Type 0 where
     is_first : b ≡ n → y ≡ J → Which b y
     is_gone : b ≡ m → y ≡ renamed_in (one_name n m) empty_block → Which b y
     is_other : (z : FlatBlock) → IsBlock old b z → b ≢ n → b ≢ m → y ≡ renamed_in (one_name n m) z → Which b y
 
-  which : (b : ℕ) (y : FlatBlock) → IsBlock new b y → Which b y
+  pub which : (b : ℕ) (y : FlatBlock) → IsBlock new b y → Which b y
   which b y e = by_tests (nat_eq b m) (nat_eq b n) refl refl
     where
       made : (x : FlatBlock) × (slice_get (slice_set (slice_set old.blocks n (joined k l)) m empty_block) b ≡ Some x) × (renamed_in (one_name n m) x ≡ y)
@@ -154,14 +154,14 @@ module _ (types : ℕ → Scalar) (funcs : ℕ → FuncType) (own : FuncType) (o
   edge_elsewhere : (a b : ℕ) → IsEdge old a b → a ≢ n → a ≢ m → IsEdge new a b
   edge_elsewhere a b e not_first not_m = (renamed_in (one_name n m) e.0, at_other a e.0 e.1 not_first not_m, e.2)
 
-  old_edge : (a b : ℕ) → IsEdge new a b → (c : ℕ) × IsEdge old c b
+  pub old_edge : (a b : ℕ) → IsEdge new a b → (c : ℕ) × IsEdge old c b
   old_edge a b e = by_edge (edge_back a b e)
     where
       by_edge : Edge a b → (c : ℕ) × IsEdge old c b
       by_edge (behind at' f) = (m, f)
       by_edge (elsewhere p q f) = (a, f)
 
-  not_gone : (a b : ℕ) → IsEdge new a b → b ≢ m
+  pub not_gone : (a b : ℕ) → IsEdge new a b → b ≢ m
   not_gone a b e same = by_edge (edge_back a b e)
     where
       by_edge : Edge a b → ⊥

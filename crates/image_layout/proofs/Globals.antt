@@ -1,8 +1,7 @@
 -- The memory that a run of a valid module begins with: how its blocks are aligned, how many bytes they have, and of what their
 -- pointers are.
-use Rattle.std.proofs.Common.{◌≡◌, ◌⊎◌, inl, inr, ℕ, zero, suc, ◌+◌, ◌<◌, ◌≤◌, max, Bool, true, false, List, [], ◌∷◌, ◌++◌, map, take, fold, length, Option, Some, None, slice_get, Contains, IsSome, refl, sym, ap, ap₂, ◌∙◌, subst, arith}
+use Rattle.std.proofs.Common.{◌≡◌, ◌⊎◌, inl, inr, ℕ, zero, suc, ◌+◌, ◌<◌, ◌≤◌, max, List, [], ◌∷◌, ◌++◌, map, take, fold, length, Option, Some, None, slice_get, Contains, IsSome, refl, sym, ap, ap₂, ◌∙◌, subst, arith}
 use Rattle.std.specs.Prelude.{unwrap_or}
-use Rattle.std.specs.Bool.{Decides}
 use Rattle.std.specs.List.{flat_map}
 use Rattle.std.specs.Int.{next_multiple_of}
 use Rattle.std.proofs.lemmas.Bool.{cases_lt}
@@ -22,17 +21,14 @@ use Rattle.ir_core.specs.Sizes.{empty, layout, size}
 use Rattle.ir_core.specs.Valid.{IsValid}
 use Rattle.ir_core.specs.ValidConsts.{HasType}
 use Rattle.ir_core.specs.ValidModule.{global_align, data_end}
-use Rattle.ir_core.specs.ValidTypes.{value_use, value_uses, type_uses, func_uses, StandsForStruct}
+use Rattle.ir_core.specs.ValidTypes.{value_use, value_uses, type_uses, func_uses}
 use Rattle.ir_core.proofs.Lists.{Has, Each, each_from, contains, has_in, has_at, has_left, has_right, has_part, has_mapped, map_source, element}
 use Rattle.ir_safety.proofs.Decided.{Decided, so, always, both, is_less, is_at_most, is_align}
-use Rattle.ir_safety.proofs.Safe.{NotFalse, in_turn}
+use Rattle.ir_safety.proofs.Safe.{NotFalse, true_too, and_so, in_turn}
 use Rattle.ir_safety.proofs.TypeSizes.{aligned_well}
-use Rattle.module_rules.specs.TypeFaults.{emptied_defs, is_laid_name}
-use Rattle.module_rules.proofs.Decided.{false_is_not_true}
-use Rattle.module_rules.proofs.SizeUses.{global_laid}
-use Rattle.module_rules.proofs.StructNames.{struct_decides}
 use Rattle.rv_select.specs.Stands.{IsMadeByte, BytesMade}
 use Rattle.image_layout.proofs.DataLaid.{AreAligned, end_of}
+use Rattle.image_layout.proofs.LaidTypes.{struct_named, use_laid}
 use Rattle.image_layout.proofs.InitialBytes.{OkType, init_length, init_made}
 
 some_of : {A : Type 0} (o : Option A) → IsSome o → (x : A) × (o ≡ Some x)
@@ -53,6 +49,10 @@ each_at P (y ∷ ys) zero x h e = subst P (some_same e) h.0
     some_same e = cc
 each_at P (y ∷ ys) (suc k) x h e = each_at P ys k x h.1 e
 
+each_not_false : {A : Type 0} (P : A → Type 0) (xs : List A) → ((x : A) → Has xs x → NotFalse (P x)) → NotFalse (Each P xs)
+each_not_false P [] h = true_too tt
+each_not_false P (x ∷ xs) h = and_so (h x (inl refl)) (λ p. in_turn (each_not_false P xs (λ y k. h y (inr k))) (λ q. (p, q)))
+
 module _ (m : Module) (valid : IsValid m) where
   abbrev defs : List TypeDef
   defs = m.types.defs
@@ -69,41 +69,36 @@ module _ (m : Module) (valid : IsValid m) where
     pub aligned : IsAlign (aligned_as defs g.align g.ty)
     aligned = so (is_align (aligned_as defs g.align g.ty)) (λ n. valid.alignments g.place (inl (g, inside, refl, λ good. n (aligned_well defs g.align g.ty good))))
 
-    laid : (l : Layout) × (layout defs g.ty ≡ Some l)
-    laid = some_of (layout defs g.ty) (global_laid m valid.type_names g stands g.ty (inl refl))
-
     used : (ts : List IrType) (t : IrType) → Has ts t → Has (value_uses g.place ts) (value_use g.place t)
     used ts t h = has_mapped (value_use g.place) ts t h
 
-    in_module : (t : IrType) → Has (g.ty ∷ const_types g.init) t → Contains (type_uses m) (value_use g.place t)
+    in_module : (t : IrType) → Has (g.ty ∷ const_types g.init) t → Has (type_uses m) (value_use g.place t)
     in_module t h =
         let before = map (λ (d : TypeDef). value_use d.place d.ty) m.types.defs in
         let globals = flat_map (λ (x : GlobalVar). value_uses x.place (x.ty ∷ const_types x.init)) m.globals in
         let u = value_use g.place t in
-        contains (type_uses m) u
-        (has_left (before ++ globals) (flat_map func_uses m.funcs) u
-        (has_right before globals u (has_part (λ (x : GlobalVar). value_uses x.place (x.ty ∷ const_types x.init)) m.globals g u stands (used (g.ty ∷ const_types g.init) t h))))
+        has_left (before ++ globals) (flat_map func_uses m.funcs) u
+        (has_right before globals u (has_part (λ (x : GlobalVar). value_uses x.place (x.ty ∷ const_types x.init)) m.globals g u stands (used (g.ty ∷ const_types g.init) t h)))
 
-    named : (t : IrType) → Has (g.ty ∷ const_types g.init) t → OkType m t
-    named Void h = tt
-    named (Int w) h = tt
-    named Ptr h = tt
-    named (Array' k a ts) h = tt
-    named (Struct' k ts) h = tt
-    named (Named x) h = by (is_laid_name (emptied_defs defs) x) (struct_decides defs x)
-      where
-        by : (t : Bool) → Decides t (StandsForStruct defs x) → StandsForStruct defs x
-        by true d = d.0 refl
-        by false d = absurd (valid.type_names g.place (inr (inl (value_use g.place (Named x), in_module (Named x) h, refl, (x, contains (x ∷ []) x (inl refl), λ stands. false_is_not_true (d.1 stands))))))
+    laid : (l : Layout) × (layout defs g.ty ≡ Some l)
+    laid = some_of (layout defs g.ty) (use_laid m valid.type_names g.place g.ty (in_module g.ty (inl refl)))
 
-    names : Each (OkType m) (g.ty ∷ const_types g.init)
-    names = each_from (OkType m) (g.ty ∷ const_types g.init) named
+    named : (t : IrType) → Has (g.ty ∷ const_types g.init) t → NotFalse (OkType m t)
+    named Void h = true_too tt
+    named (Int w) h = true_too tt
+    named Ptr h = true_too tt
+    named (Array' k a ts) h = true_too tt
+    named (Struct' k ts) h = true_too tt
+    named (Named x) h = struct_named m valid.type_names g.place (Named x) (in_module (Named x) h) x (contains (x ∷ []) x (inl refl))
+
+    names : NotFalse (Each (OkType m) (g.ty ∷ const_types g.init))
+    names = each_not_false (OkType m) (g.ty ∷ const_types g.init) named
 
     pub bytes_length : length (initial_bytes m g.ty g.init) ≡ size defs g.ty
     bytes_length =
         let n = length (initial_bytes m g.ty g.init) in
         let same : size defs g.ty ≡ laid.0.size = ap (λ (o : Option Layout). (unwrap_or o empty).size) laid.1 in
-        let whole : NotFalse (n ≡ laid.0.size) = in_turn typed (λ h. init_length m g.ty g.init h names.1 names.0 laid.0 laid.1) in
+        let whole : NotFalse (n ≡ laid.0.size) = and_so typed (λ h. in_turn names (λ n. init_length m g.ty g.init h n.1 n.0 laid.0 laid.1)) in
         let low = so (is_at_most n laid.0.size) (in_turn whole (λ e. omega (arith, e))) in
         let high = so (is_at_most laid.0.size n) (in_turn whole (λ e. omega (arith, e))) in
         omega (arith, same, low, high)

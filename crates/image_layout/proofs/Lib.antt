@@ -3,4 +3,5 @@ pub mod DataLaid
 pub mod Globals
 pub mod InitialBytes
 pub mod Laid
+pub mod LaidTypes
 pub mod TextLaid

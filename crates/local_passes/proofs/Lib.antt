@@ -14,3 +14,4 @@ pub mod DeadFormed
 pub mod CopyLaws
 pub mod NoCopies
 pub mod Rounds
+pub mod RoundsFormed

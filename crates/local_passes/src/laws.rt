@@ -35,3 +35,8 @@ pub fn sources_are_of_copies()
 pub fn rounds_end_early()
     ensures { (b : bodies.FlatBody) (n : ℕ) → n ≤ 4 → one_round (iterate one_round n b) ≡ iterate one_round n b → simplified b ≡ iterate one_round n b }
 {}
+
+/// A formed body is formed when it is simplified, under the same types. It does nothing: its contract is the law.
+pub fn simplified_bodies_are_formed()
+    ensures { (types : ℕ → Scalar) (funcs : ℕ → FuncType) (own : FuncType) (b : bodies.FlatBody) → IsFormedBody types funcs own b → IsFormedBody types funcs own (simplified b) }
+{}

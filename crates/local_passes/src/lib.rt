@@ -8,6 +8,7 @@ mod copy_table;
 mod dead;
 mod laws;
 mod needs;
+mod pipeline;
 mod sources;
 mod use_table;
 
@@ -15,5 +16,6 @@ pub use copies::local_copies;
 pub use dead::drop_dead;
 pub use laws::{
     bodies_without_dead_code_are_formed, needed_registers_have_uses, replaced_copies_are_formed,
-    rounds_end_early, sources_are_of_copies,
+    rounds_end_early, simplified_bodies_are_formed, sources_are_of_copies,
 };
+pub use pipeline::{ROUNDS, simplify};
