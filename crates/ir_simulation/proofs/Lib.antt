@@ -1,0 +1,9 @@
+pub mod Simulate
+pub mod Moved
+pub mod Writes
+pub mod Reached
+pub mod OneBody
+pub mod Named
+pub mod Ready
+pub mod ReplacedFormed
+pub mod Composed

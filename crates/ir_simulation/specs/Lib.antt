@@ -1,0 +1,3 @@
+pub mod Globals
+pub mod KeepsMeaning
+pub mod Replaced
