@@ -1,0 +1,6 @@
+//! That the passes over bodies keep the meaning of programs.
+#![tactic(auto)]
+
+mod laws;
+
+pub use laws::{dropping_unreached_blocks_keeps_meaning, folding_branches_keeps_meaning};
