@@ -4,3 +4,7 @@ pub mod BranchesLaw
 pub mod NamedBlocks
 pub mod UnreachedFollow
 pub mod UnreachedLaw
+pub mod Rewritten
+pub mod Operands
+pub mod CopiesFollow
+pub mod CopiesLaw

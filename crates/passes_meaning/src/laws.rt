@@ -1,5 +1,6 @@
 ghost use Rattle.flow_fold.specs.FoldBranches.{branches_folded};
 ghost use Rattle.flow_fold.specs.DropUnreached.{unreached_dropped};
+ghost use Rattle.local_passes.specs.LocalCopies.{copies_replaced};
 ghost use Rattle.ir_simulation.specs.KeepsMeaning.{KeepsMeaning};
 
 /// Of every formed program that holds a body, the program with the body's branches folded is formed, and follows it. It does
@@ -11,4 +12,9 @@ pub fn folding_branches_keeps_meaning()
 /// The same without the body's unreached blocks. It does nothing: its contract is the law.
 pub fn dropping_unreached_blocks_keeps_meaning()
     ensures { KeepsMeaning unreached_dropped }
+{}
+
+/// The same with the body's copies replaced. It does nothing: its contract is the law.
+pub fn replacing_copies_keeps_meaning()
+    ensures { KeepsMeaning copies_replaced }
 {}
