@@ -8,3 +8,8 @@ pub mod Rewritten
 pub mod Operands
 pub mod CopiesFollow
 pub mod CopiesLaw
+pub mod Addresses
+pub mod Facts
+pub mod Constants
+pub mod ConstantNames
+pub mod ConstantsLaw

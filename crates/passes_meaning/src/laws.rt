@@ -1,3 +1,4 @@
+ghost use Rattle.const_fold.specs.FoldConstants.{constants_folded};
 ghost use Rattle.flow_fold.specs.FoldBranches.{branches_folded};
 ghost use Rattle.flow_fold.specs.DropUnreached.{unreached_dropped};
 ghost use Rattle.local_passes.specs.LocalCopies.{copies_replaced};
@@ -17,4 +18,9 @@ pub fn dropping_unreached_blocks_keeps_meaning()
 /// The same with the body's copies replaced. It does nothing: its contract is the law.
 pub fn replacing_copies_keeps_meaning()
     ensures { KeepsMeaning copies_replaced }
+{}
+
+/// The same with the body's constants folded. It does nothing: its contract is the law.
+pub fn folding_constants_keeps_meaning()
+    ensures { KeepsMeaning constants_folded }
 {}
