@@ -7,3 +7,14 @@ pub mod Named
 pub mod Ready
 pub mod ReplacedFormed
 pub mod Composed
+pub mod Below
+pub mod Matches
+pub mod Respect
+pub mod Places
+pub mod Loads
+pub mod Rows
+pub mod Ends
+pub mod Needed
+pub mod Dead
+pub mod Kills
+pub mod Twins
