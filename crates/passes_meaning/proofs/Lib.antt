@@ -13,3 +13,9 @@ pub mod Facts
 pub mod Constants
 pub mod ConstantNames
 pub mod ConstantsLaw
+pub mod Thinning
+pub mod Thinned
+pub mod OneWriter
+pub mod GlobalTwins
+pub mod DeadFollow
+pub mod DeadLaw

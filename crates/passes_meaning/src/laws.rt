@@ -1,6 +1,7 @@
 ghost use Rattle.const_fold.specs.FoldConstants.{constants_folded};
 ghost use Rattle.flow_fold.specs.FoldBranches.{branches_folded};
 ghost use Rattle.flow_fold.specs.DropUnreached.{unreached_dropped};
+ghost use Rattle.local_passes.specs.DropDead.{dead_dropped};
 ghost use Rattle.local_passes.specs.LocalCopies.{copies_replaced};
 ghost use Rattle.ir_simulation.specs.KeepsMeaning.{KeepsMeaning};
 
@@ -23,4 +24,9 @@ pub fn replacing_copies_keeps_meaning()
 /// The same with the body's constants folded. It does nothing: its contract is the law.
 pub fn folding_constants_keeps_meaning()
     ensures { KeepsMeaning constants_folded }
+{}
+
+/// The same without the body's dead code. It does nothing: its contract is the law.
+pub fn dropping_dead_code_keeps_meaning()
+    ensures { KeepsMeaning dead_dropped }
 {}
