@@ -19,3 +19,7 @@ pub mod OneWriter
 pub mod GlobalTwins
 pub mod DeadFollow
 pub mod DeadLaw
+pub mod LeftRegisters
+pub mod Merges
+pub mod MergePremises
+pub mod SimplifiedLaw
