@@ -336,3 +336,7 @@ module _ (p : Program) (types : ℕ → ℕ → Scalar) (funcs : ℕ → FuncTyp
 
     pub never_stuck : (n : ℕ) → (flat_run p input n).status ≢ Stuck
     never_stuck n stuck = and_so started (all_turns n (flat_start p input)) (λ fine. fine.0 stuck)
+
+    -- where the run goes on, it stands on a path, with values of their types in the registers that are written there
+    pub runs_on : (n : ℕ) → (iterate (flat_step p) n (flat_start p input)).status ≡ Going → NotFalse (Runs p types funcs (iterate (flat_step p) n (flat_start p input)))
+    runs_on n going = in_turn (and_so started (all_turns n (flat_start p input))) (λ fine. fine.1 going)

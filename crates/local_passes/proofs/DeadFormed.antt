@@ -168,7 +168,7 @@ module _ (types : ℕ → Scalar) (funcs : ℕ → FuncType) (own : FuncType) (o
     by_definition : (d r : ℕ) → Has (writes k) d → keep d ≡ true → Has (used_in d k) (Reg (record { 0 = r })) → keep r ≡ true
     by_definition d r w e g = by_use old d r (written_in d w) e (contains (used_for old d) (Reg (record { 0 = r })) (has_part (used_in d) old.blocks k (Reg (record { 0 = r })) here g))
 
-    phi_needs : (f : Phi) (r : ℕ) → Has k.phis f → keep f.reg.0 ≡ true → Has (values f) (Reg (record { 0 = r })) → keep r ≡ true
+    pub phi_needs : (f : Phi) (r : ℕ) → Has k.phis f → keep f.reg.0 ≡ true → Has (values f) (Reg (record { 0 = r })) → keep r ≡ true
     phi_needs f r in_it e g =
         by_definition f.reg.0 r (has_left (map (λ (f : Phi). f.reg.0) k.phis) (filter_map written_by k.code) f.reg.0 (has_mapped (λ (f : Phi). f.reg.0) k.phis f in_it)) e
         (has_left (flat_map (λ (x : Phi). if_same f.reg.0 (Some x.reg.0) (values x)) k.phis) (flat_map (λ (i : FlatInstr). if_same f.reg.0 (written_by i) (used_by i)) k.code) (Reg (record { 0 = r }))
@@ -177,7 +177,7 @@ module _ (types : ℕ → Scalar) (funcs : ℕ → FuncType) (own : FuncType) (o
     act_needs : (r : ℕ) → Has (acts_in k) (Reg (record { 0 = r })) → keep r ≡ true
     act_needs r g = by_act old r (contains (all_acts old) (Reg (record { 0 = r })) (has_part acts_in old.blocks k (Reg (record { 0 = r })) here g))
 
-    instr_needs : (i j : FlatInstr) (r : ℕ) → Has k.code i → instr_kept keep i ≡ Some j → Has (used_by i) (Reg (record { 0 = r })) → keep r ≡ true
+    pub instr_needs : (i j : FlatInstr) (r : ℕ) → Has k.code i → instr_kept keep i ≡ Some j → Has (used_by i) (Reg (record { 0 = r })) → keep r ≡ true
     instr_needs i j r in_it e g = ⊎_elim
         (λ acts. act_needs r (has_left (flat_map used_by_act k.code) (used_at_end k.end) (Reg (record { 0 = r })) (has_part used_by_act k.code i (Reg (record { 0 = r })) in_it (subst (λ os. Has os (Reg (record { 0 = r }))) (sym acts) g))))
         (λ d. by_definition d.0 r
@@ -186,7 +186,7 @@ module _ (types : ℕ → Scalar) (funcs : ℕ → FuncType) (own : FuncType) (o
         (has_part (λ (y : FlatInstr). if_same d.0 (written_by y) (used_by y)) k.code i (Reg (record { 0 = r })) in_it (subst (λ w. Has (if_same d.0 w (used_by i)) (Reg (record { 0 = r }))) (sym d.1) (own_has d.0 (used_by i) (Reg (record { 0 = r })) g)))))
         (why_kept keep i j e)
 
-    end_needs : (r : ℕ) → Has (used_at_end k.end) (Reg (record { 0 = r })) → keep r ≡ true
+    pub end_needs : (r : ℕ) → Has (used_at_end k.end) (Reg (record { 0 = r })) → keep r ≡ true
     end_needs r g = act_needs r (has_right (flat_map used_by_act k.code) (used_at_end k.end) (Reg (record { 0 = r })) g)
 
   -- ---- paths
@@ -268,7 +268,7 @@ module _ (types : ℕ → Scalar) (funcs : ℕ → FuncType) (own : FuncType) (o
   named : (xs : List FlatOp) (o : FlatOp) (r : ℕ) → Has xs o → o ≡ Reg (record { 0 = r }) → Has xs (Reg (record { 0 = r }))
   named xs o r g e = subst (Has xs) e g
 
-  used_left : (b : ℕ) (k : FlatBlock) → IsBlock old b k → (o : FlatOp) → Has (uses (left k)) o → Has (uses k) o × ((r : ℕ) → o ≡ Reg (record { 0 = r }) → keep r ≡ true)
+  pub used_left : (b : ℕ) (k : FlatBlock) → IsBlock old b k → (o : FlatOp) → Has (uses (left k)) o → Has (uses k) o × ((r : ℕ) → o ≡ Reg (record { 0 = r }) → keep r ≡ true)
   used_left b k is o g = ⊎_elim
       (λ first. ⊎_elim of_phis of_code (split (flat_map values (left k).phis) (flat_map used_by (left k).code) o first))
       of_terminator
@@ -306,7 +306,7 @@ module _ (types : ℕ → Scalar) (funcs : ℕ → FuncType) (own : FuncType) (o
       let was = filter_from (λ (f : Phi). keep f.reg.0) k.0.phis f (has_in (left k.0).phis f (subst (λ (x : FlatBlock). Contains x.phis f) k.2 in_it)) in
       (k.0, k.1, contains k.0.phis f was.0, was.1)
 
-  instr_from : (b n : ℕ) (l : FlatBlock) (j : FlatInstr) → IsBlock new b l → slice_get l.code n ≡ Some j → (k : FlatBlock) × (m : ℕ) × (i : FlatInstr) × IsBlock old b k × (slice_get k.code m ≡ Some i) × (instr_kept keep i ≡ Some j) × (place k m ≡ n) × (l ≡ left k)
+  pub instr_from : (b n : ℕ) (l : FlatBlock) (j : FlatInstr) → IsBlock new b l → slice_get l.code n ≡ Some j → (k : FlatBlock) × (m : ℕ) × (i : FlatInstr) × IsBlock old b k × (slice_get k.code m ≡ Some i) × (instr_kept keep i ≡ Some j) × (place k m ≡ n) × (l ≡ left k)
   instr_from b n l j e at =
       let k = from_old b l e in
       let i = made_from (instr_kept keep) k.0.code n j (subst (λ (x : FlatBlock). slice_get x.code n ≡ Some j) k.2 at) in

@@ -1,0 +1,4 @@
+pub mod Globals
+pub mod KeepsMeaning
+pub mod Renamed
+pub mod Replaced
