@@ -9,6 +9,7 @@ pub mod Listed
 pub mod Marking
 pub mod JoinedLists
 pub mod MergeFormed
+pub mod MergedFormed
 pub mod Namings
 pub mod Numbers
 pub mod OneMerge
