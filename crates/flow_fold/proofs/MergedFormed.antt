@@ -23,7 +23,7 @@ use Rattle.flow_fold.proofs.OneMerge.{plain_targets}
 use Rattle.flow_fold.proofs.Reaching.{IsClosed}
 
 -- a block that goes to m is n, where m has no other predecessor and the blocks' first number is a
-only_from : (n m a : ℕ) (ks : List FlatBlock) (j : ℕ) (k : FlatBlock) → comes_only n m a ks ≡ true → slice_get ks j ≡ Some k → goes_to m k.end ≡ true → a + j ≡ n
+pub only_from : (n m a : ℕ) (ks : List FlatBlock) (j : ℕ) (k : FlatBlock) → comes_only n m a ks ≡ true → slice_get ks j ≡ Some k → goes_to m k.end ≡ true → a + j ≡ n
 only_from n m a [] j k only e goes = absurd cc
 only_from n m a (x ∷ xs) j k only e goes = by_place (nat_eq a n) (goes_to m x.end) refl refl only j e (λ i rest f. only_from n m (suc a) xs i k rest f goes)
   where
