@@ -323,7 +323,7 @@ module _ (types : ℕ → Scalar) (funcs : ℕ → FuncType) (own : FuncType) (o
   written_has k n r (inl phi) = has_left (map (λ (g : Phi). g.reg.0) k.phis) (filter_map written_by k.code) r (has_in (map (λ (g : Phi). g.reg.0) k.phis) r phi)
   written_has k n r (inr w) = has_right (map (λ (g : Phi). g.reg.0) k.phis) (filter_map written_by k.code) r (has_made written_by k.code w.1 r (has_at k.code w.0 w.1 w.3) w.4)
 
-  still_written : (b : ℕ) (k : FlatBlock) (r : ℕ) → IsBlock old b k → keep b ≡ true → Has (writes k) r → Contains (all_writes new) r
+  pub still_written : (b : ℕ) (k : FlatBlock) (r : ℕ) → IsBlock old b k → keep b ≡ true → Has (writes k) r → Contains (all_writes new) r
   still_written b k r e left has = contains (all_writes new) r (has_part writes new.blocks (left_in keep k) r (has_at new.blocks (number_of keep b) (left_in keep k) (block_at b k e left)) (subst (λ rs. Has rs r) (sym (same_writes keep k)) has))
 
   came_in : (bs : List ℕ) (r : ℕ) → Each (λ b. keep b ≡ true) bs → ComesIn old bs r → (r < old.params) ⊎ Contains (all_writes new) r

@@ -1,5 +1,5 @@
 -- A formed body is formed after one merge, with an empty block in the place of the one that was merged.
-use Rattle.std.proofs.Common.{◌≡◌, ◌≢◌, ◌⊎◌, inl, inr, ⊎_elim, ℕ, zero, suc, ◌+◌, ◌<◌, ◌≤◌, Bool, true, false, nat_eq, if◌then◌else◌, List, [], ◌∷◌, ◌++◌, map, length, length-append, Option, Some, None, slice_get, slice_set, All, AllPairs, Contains, refl, sym, ap, ap₂, ◌∙◌, subst, arith, append_assoc}
+use Rattle.std.proofs.Common.{◌≡◌, ◌≢◌, ◌⊎◌, inl, inr, ⊎_elim, ℕ, zero, suc, ◌+◌, ◌<◌, ◌≤◌, Bool, true, false, not, ◌&&◌, nat_eq, if◌then◌else◌, List, [], ◌∷◌, ◌++◌, map, length, length-append, Option, Some, None, slice_get, slice_set, All, AllPairs, Contains, refl, sym, ap, ap₂, ◌∙◌, subst, arith, append_assoc}
 use Rattle.std.specs.List.{flat_map, filter_map}
 use Rattle.std.proofs.lemmas.Bool.Decides.{nat_tests}
 use Rattle.std.proofs.lemmas.Option.{slice_get_within}
@@ -95,12 +95,12 @@ module _ (types : ℕ → Scalar) (funcs : ℕ → FuncType) (own : FuncType) (o
 
   -- ---- blocks
 
-  pub data Which (b : ℕ) (y : FlatBlock) : Type 0 where
+  data Which (b : ℕ) (y : FlatBlock) : Type 0 where
     is_first : b ≡ n → y ≡ J → Which b y
     is_gone : b ≡ m → y ≡ renamed_in (one_name n m) empty_block → Which b y
     is_other : (z : FlatBlock) → IsBlock old b z → b ≢ n → b ≢ m → y ≡ renamed_in (one_name n m) z → Which b y
 
-  pub which : (b : ℕ) (y : FlatBlock) → IsBlock new b y → Which b y
+  which : (b : ℕ) (y : FlatBlock) → IsBlock new b y → Which b y
   which b y e = by_tests (nat_eq b m) (nat_eq b n) refl refl
     where
       made : (x : FlatBlock) × (slice_get (slice_set (slice_set old.blocks n (joined k l)) m empty_block) b ≡ Some x) × (renamed_in (one_name n m) x ≡ y)
@@ -154,14 +154,14 @@ module _ (types : ℕ → Scalar) (funcs : ℕ → FuncType) (own : FuncType) (o
   edge_elsewhere : (a b : ℕ) → IsEdge old a b → a ≢ n → a ≢ m → IsEdge new a b
   edge_elsewhere a b e not_first not_m = (renamed_in (one_name n m) e.0, at_other a e.0 e.1 not_first not_m, e.2)
 
-  pub old_edge : (a b : ℕ) → IsEdge new a b → (c : ℕ) × IsEdge old c b
+  old_edge : (a b : ℕ) → IsEdge new a b → (c : ℕ) × IsEdge old c b
   old_edge a b e = by_edge (edge_back a b e)
     where
       by_edge : Edge a b → (c : ℕ) × IsEdge old c b
       by_edge (behind at' f) = (m, f)
       by_edge (elsewhere p q f) = (a, f)
 
-  pub not_gone : (a b : ℕ) → IsEdge new a b → b ≢ m
+  not_gone : (a b : ℕ) → IsEdge new a b → b ≢ m
   not_gone a b e same = by_edge (edge_back a b e)
     where
       by_edge : Edge a b → ⊥
@@ -639,3 +639,24 @@ module _ (types : ℕ → Scalar) (funcs : ℕ → FuncType) (own : FuncType) (o
     ends = λ b y e. end_typed b y (which b y e);
     defined_first = first_defined;
   }
+
+  -- ---- which blocks are left
+
+  -- no edge leads to the block that was merged, and others only to where one led before
+  pub edges_now : (a b : ℕ) → IsEdge new a b → (b ≢ m) × ((c : ℕ) × IsEdge old c b)
+  edges_now a b e = (not_gone a b e, old_edge a b e)
+
+  -- blocks that are not left are empty
+  pub empty_now : (left : ℕ → Bool) → ((b : ℕ) (z : FlatBlock) → IsBlock old b z → left b ≡ false → z ≡ empty_block)
+      → (b : ℕ) (y : FlatBlock) → IsBlock new b y → (not (nat_eq b m) && left b) ≡ false → y ≡ empty_block
+  empty_now left was b y e gone = by_block (which b y e)
+    where
+      not_left : b ≢ m → left b ≡ false
+      not_left p = let other : nat_eq b m ≡ false = grind (arith, nat_tests) in ap (λ t. not t && left b) (sym other) ∙ gone
+
+      by_block : Which b y → y ≡ empty_block
+      by_block (is_first here is) =
+          let is_empty = was n k at_n (subst (λ c. left c ≡ false) here (not_left (λ same. not_n (sym here ∙ same)))) in
+          absurd (subst (λ (ts : List ℕ). Has ts m) (sym plain ∙ ap (λ (z : FlatBlock). targets z.end) is_empty) (inl refl))
+      by_block (is_gone here is) = is
+      by_block (is_other z here p q is) = is ∙ ap (renamed_in (one_name n m)) (was b z here (not_left q))

@@ -67,7 +67,7 @@ comes_renamed : (name : ℕ → ℕ) (n m a : ℕ) (ks : List FlatBlock) → com
 comes_renamed name n m a [] = refl
 comes_renamed name n m a (k ∷ ks) = ap (λ t. (nat_eq a n || not (Rattle.flow_fold.specs.Targets.goes_to m k.end)) && t) (comes_renamed name n m (suc a) ks)
 
-plain_targets : (e : FlatEnd) (m : ℕ) → plain_target e ≡ Some m → targets e ≡ m ∷ []
+pub plain_targets : (e : FlatEnd) (m : ℕ) → plain_target e ≡ Some m → targets e ≡ m ∷ []
 plain_targets (Br b) m e = let same : b.0 ≡ m = cc in ap (λ t. t ∷ []) same
 plain_targets (Ret a) m e = absurd cc
 plain_targets (Cond c t f) m e = absurd cc

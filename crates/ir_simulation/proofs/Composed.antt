@@ -43,7 +43,7 @@ keeps_repeated a k (suc n) = keeps_then a (iterate a (suc n)) k (keeps_repeated 
 -- ---- all bodies
 
 -- a run that is never stuck follows itself
-follows_itself : (p : Program) (input : List ℕ) → ((n : ℕ) → (flat_run p input n).status ≢ Stuck) → Follows (flat_run p input) (flat_run p input)
+pub follows_itself : (p : Program) (input : List ℕ) → ((n : ℕ) → (flat_run p input n).status ≢ Stuck) → Follows (flat_run p input) (flat_run p input)
 follows_itself p input never = record {
   to_source = λ n. (n, by_status n (flat_run p input n).status refl);
   to_follower = λ m lasting. (m, record { same_output = refl; same_status = refl; lasting = lasting });

@@ -12,7 +12,7 @@ use Rattle.flow_fold.specs.DropUnreached.{is_reached, unreached_dropped}
 use Rattle.flow_fold.specs.MergeBlocks.{blocks_merged}
 use Rattle.flow_fold.proofs.BranchesFormed as branches
 use Rattle.flow_fold.proofs.DroppedFormed.{dropped_formed, used_on_paths}
-use Rattle.flow_fold.proofs.MergedFormed.{merged_formed}
+use Rattle.flow_fold.proofs.MergedFormed.{all_merged_formed}
 use Rattle.flow_fold.proofs.Reaching.{reached_closed, reached_path}
 use Rattle.local_passes.specs.LocalCopies.{copies_replaced}
 use Rattle.local_passes.specs.DropDead.{dead_dropped}
@@ -31,6 +31,10 @@ branches_formed = branches.branches_formed
 unreached_formed : KeepsFormed unreached_dropped
 unfolding unreached_dropped
 unreached_formed types funcs own b h = dropped_formed types funcs own b h (is_reached b) (reached_closed b) (used_on_paths types funcs own b h (is_reached b) (reached_closed b) (reached_path b))
+
+merged_formed : KeepsFormed blocks_merged
+unfolding blocks_merged
+merged_formed types funcs own b h = all_merged_formed types funcs own b h
 
 well : (pass : FlatBody → FlatBody) → KeepsFormed pass → (b : FlatBody) → IsWellFormed b → IsWellFormed (pass b)
 well pass keeps b w = record { types = w.types; funcs = w.funcs; own = w.own; formed = keeps w.types w.funcs w.own b w.formed }

@@ -23,3 +23,5 @@ pub mod LeftRegisters
 pub mod Merges
 pub mod MergePremises
 pub mod SimplifiedLaw
+pub mod MergedParts
+pub mod MergedLaw

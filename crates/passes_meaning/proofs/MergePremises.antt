@@ -1,5 +1,5 @@
 -- In a formed body a block that is behind another is one that may be merged into it.
-use Rattle.std.proofs.Common.{◌≡◌, ◌≢◌, ◌⊎◌, inl, inr, ⊎_elim, ℕ, zero, suc, ◌+◌, ◌<◌, ◌≤◌, Bool, true, false, not, ◌&&◌, ◌||◌, nat_eq, if◌then◌else◌, List, [], ◌∷◌, map, length, Some, slice_get, Contains, refl, sym, ap, ◌∙◌, subst, arith}
+use Rattle.std.proofs.Common.{◌≡◌, ◌≢◌, ◌⊎◌, inl, inr, ⊎_elim, ℕ, ◌<◌, ◌≤◌, Bool, true, false, nat_eq, if◌then◌else◌, List, [], ◌∷◌, map, length, Some, slice_get, Contains, refl, sym, ap, ◌∙◌, subst, arith}
 use Rattle.std.specs.List.{filter_map}
 use Rattle.std.proofs.lemmas.Bool.Decides.{nat_tests}
 use Rattle.std.proofs.lemmas.List.Elements.{All-contains}
@@ -20,6 +20,7 @@ use Rattle.flow_fold.specs.Targets.{goes_to}
 use Rattle.flow_fold.specs.MergeBlocks.{comes_only, plain_target, first_value}
 use Rattle.flow_fold.proofs.BranchesFormed.{has_goes}
 use Rattle.flow_fold.proofs.DroppedFormed.{apart_pairs}
+use Rattle.flow_fold.proofs.MergedFormed.{only_from}
 use Rattle.passes_meaning.proofs.OneWriter.{one_part}
 use Rattle.passes_meaning.proofs.Merges.{TakesFirst, LeavesAlone, InOrder, IsMerge}
 
@@ -29,24 +30,6 @@ plain_end (Ret a) m e = absurd cc
 plain_end (Cond c t f) m e = absurd cc
 plain_end (Switch a w cases other) m e = absurd cc
 plain_end Unreachable m e = absurd cc
-
-comes_from : (n m a : ℕ) (ks : List FlatBlock) → comes_only n m a ks ≡ true → (b : ℕ) (z : FlatBlock) → slice_get ks b ≡ Some z → goes_to m z.end ≡ true → a + b ≡ n
-comes_from n m a [] e b z at' goes = cc
-comes_from n m a (k ∷ ks) e zero z at' goes = at (nat_eq a n) (goes_to m k.end) refl refl e
-  where
-    at : (s t : Bool) → nat_eq a n ≡ s → goes_to m k.end ≡ t → ((s || not t) && comes_only n m (suc a) ks) ≡ true → a + 0 ≡ n
-    at true t es et e = let same : a ≡ n = grind (arith, nat_tests) in omega (arith, same)
-    at false true es et e = absurd (let no' : false ≡ true = e in cc)
-    at false false es et e =
-        let same : k ≡ z = cc in
-        absurd (let both : false ≡ true = sym et ∙ ap (λ (x : FlatBlock). goes_to m x.end) same ∙ goes in cc)
-comes_from n m a (k ∷ ks) e (suc b) z at' goes =
-    let rest = comes_from n m (suc a) ks (second (nat_eq a n || not (goes_to m k.end)) (comes_only n m (suc a) ks) e) b z at' goes in
-    omega (arith, rest)
-  where
-    second : (s t : Bool) → (s && t) ≡ true → t ≡ true
-    second true t e = e
-    second false t e = absurd cc
 
 has_or_not : (xs : List ℕ) (m : ℕ) → Has xs m ⊎ (Has xs m → ⊥)
 has_or_not [] m = inr (λ h. h)
@@ -63,7 +46,7 @@ module _ (types : ℕ → Scalar) (funcs : ℕ → FuncType) (own : FuncType) (p
   goes_there = plain_end k.end m plain
 
   only : (b : ℕ) (z : FlatBlock) → slice_get old.blocks b ≡ Some z → goes_to m z.end ≡ true → b ≡ n
-  only b z at' goes = let e = comes_from n m 0 old.blocks sole b z at' goes in omega (arith, e)
+  only b z at' goes = let e = only_from n m 0 old.blocks b z sole at' goes in omega (arith, e)
 
   -- the one way out of block n
   only_target : (c : ℕ) → IsEdge old n c → c ≡ m

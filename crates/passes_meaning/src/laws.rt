@@ -1,3 +1,7 @@
+ghost use Rattle.std.specs.Prelude.{◌≡◌, ◌≤◌, ℕ, None};
+ghost use Rattle.ir_core.specs.declared.flat.Scalar.{Scalar};
+ghost use Rattle.ir_core.specs.Flat.{Program};
+ghost use Rattle.ir_core.specs.Formed.{FuncType, IsFormed};
 ghost use Rattle.const_fold.specs.FoldConstants.{constants_folded};
 ghost use Rattle.flow_fold.specs.FoldBranches.{branches_folded};
 ghost use Rattle.flow_fold.specs.DropUnreached.{unreached_dropped};
@@ -5,7 +9,9 @@ ghost use Rattle.local_passes.specs.DropDead.{dead_dropped};
 ghost use Rattle.flow_fold.specs.MergeBlocks.{blocks_merged};
 ghost use Rattle.local_passes.specs.LocalCopies.{copies_replaced};
 ghost use Rattle.local_passes.specs.Simplify.{simplified};
-ghost use Rattle.ir_simulation.specs.KeepsMeaning.{KeepsMeaning};
+ghost use Rattle.ir_simulation.specs.Globals.{HasGlobalParts};
+ghost use Rattle.ir_simulation.specs.KeepsMeaning.{FollowsOnBytes, KeepsMeaning};
+ghost use Rattle.ir_simulation.specs.Replaced.{with_all};
 
 /// Of every formed program that holds a body, the program with the body's branches folded is formed, and follows it. It does
 /// nothing: its contract is the law.
@@ -33,7 +39,19 @@ pub fn dropping_dead_code_keeps_meaning()
     ensures { KeepsMeaning dead_dropped }
 {}
 
-/// Where merging keeps the meaning, so do four rounds of all passes. It does nothing: its contract is the law.
+/// The same with the body's blocks merged. It does nothing: its contract is the law.
+pub fn merging_blocks_keeps_meaning()
+    ensures { KeepsMeaning blocks_merged }
+{}
+
+/// The same with four rounds of all passes, and so with what `simplify` of `local_passes` is to give. It does nothing: its
+/// contract is the law.
 pub fn simplifying_keeps_meaning()
-    ensures { KeepsMeaning blocks_merged → KeepsMeaning simplified }
+    ensures { KeepsMeaning simplified }
+{}
+
+/// Of every formed program of n functions, the program with all its bodies simplified at once is formed, and follows it. It does
+/// nothing: its contract is the law.
+pub fn simplifying_all_bodies_keeps_meaning()
+    ensures { (p : Program) (types : ℕ → ℕ → Scalar) (funcs : ℕ → FuncType) → IsFormed p types funcs → HasGlobalParts p.globals → (n : ℕ) → ((g : ℕ) → n ≤ g → p.body g ≡ None) → IsFormed (with_all p simplified) types funcs × FollowsOnBytes p (with_all p simplified) }
 {}
