@@ -3,6 +3,7 @@ use Rattle.std.proofs.Common.{◌≡◌, ◌≢◌, inl, inr, ⊎_elim, ℕ, zer
 use Rattle.std.specs.Option.{option_map, option_map_or}
 use Rattle.std.proofs.lemmas.Bool.Decides.{nat_tests}
 use Rattle.std.proofs.lemmas.Option.{slice_get_within, slice_get-map, slice_get_read}
+use Rattle.ir_core.specs.declared.limits.TheConstants.{MOST_FUNCTIONS, MOST_SITES}
 use Rattle.ir_core.specs.declared.func.Func.{Func}
 use Rattle.ir_core.specs.declared.module.Module.{Module}
 use Rattle.ir_core.specs.Proper.{IsProper}
@@ -189,7 +190,7 @@ module _ (funcs : List Func) (marks : List Mark) (comps : AreOfSites funcs marks
 
 -- ---- how many there are
 
-few_sites : (m : Module) → IsProper m → length (all_sites m.funcs) ≤ 4096
+few_sites : (m : Module) → IsProper m → length (all_sites m.funcs) ≤ MOST_SITES
 few_sites m proper = let a = count_sites m in let b = proper.site_count in omega (arith, a, b)
 
 module _ (free : Bool) (funcs : List Func) where
@@ -206,8 +207,8 @@ module _ (m : Module) (free : Bool) (g : Graph) (proper : IsProper m) (graph : I
   long [] = refl
   long (s ∷ ss) = ap suc (long ss)
 
-  pub few_sites_said : length g.sites ≤ 4096
+  pub few_sites_said : length g.sites ≤ MOST_SITES
   few_sites_said = let few = few_sites m proper in let a = ap length graph.sites in let b = long g.sites in omega (arith, few, a, b)
 
-  pub few_funcs_said : length g.funcs ≤ 4096
+  pub few_funcs_said : length g.funcs ≤ MOST_FUNCTIONS
   few_funcs_said = let few = proper.funcs in let a = graph.count in omega (arith, few, a)

@@ -1,6 +1,6 @@
 -- When a run of a module and one of its plain bodies stand alike.
 use Rattle.std.proofs.Common.{◌≡◌, ◌≢◌, ℕ, zero, suc, ◌+◌, ◌<◌, nat_eq, Bool, true, false, if◌then◌else◌, List, [], ◌∷◌, map, length, drop, Option, Some, None, slice_get, refl, sym, ap, ◌∙◌, subst, arith}
-use Rattle.std.specs.List.{filter_map, cons_option, find}
+use Rattle.std.specs.List.{filter_map, cons_option, find, AllByRecursion as Each}
 use Rattle.std.specs.Option.{option_map, option_and_then}
 use Rattle.std.proofs.lemmas.Bool.Decides.{nat_tests}
 use Rattle.std.proofs.lemmas.List.Folds.{find_at}
@@ -21,7 +21,7 @@ use Rattle.ir_core.specs.Formed.{written_by}
 use Rattle.ir_core.specs.Instructions.{block_rows}
 use Rattle.ir_core.specs.Source.{is_labelled, block_at, entry_label}
 use Rattle.ir_core.specs.Plain.{other_reg, other_operand, other_entry, other_phi, renumbered, numbers, registers, plain_body, plain_program}
-use Rattle.ir_core.proofs.Lists.{Each, Apart, place_own}
+use Rattle.ir_core.proofs.Lists.{Apart, place_own}
 use Rattle.ir_core.proofs.Renamed.{value_other}
 use Rattle.ir_core.proofs.Sound.{IsAt, coming, IsRegister, Sound}
 

@@ -6,6 +6,7 @@ use Rattle.std.specs.Int.{next_multiple_of}
 use Rattle.std.specs.Option.{option_map, option_map_or, option_and_then}
 use Rattle.std.proofs.lemmas.List.{length-map}
 use Rattle.std.proofs.lemmas.Option.{slice_get-map}
+use Rattle.ir_core.specs.declared.limits.TheConstants.{LARGEST, TOO_LARGE}
 use Rattle.ir_core.specs.declared.layout.Layout.{Layout}
 use Rattle.ir_core.specs.declared.layout.Name.{Name}
 use Rattle.ir_core.specs.declared.ty.TypeName.{TypeName}
@@ -50,7 +51,7 @@ named_layout defs x d l e f = by_depth (length defs) f
         let below : layout_by (name_layout n defs) d.ty ≡ Some l = sym (ap (option_and_then (λ (b : TypeDef). layout_by (name_layout n defs) b.ty)) e) ∙ g in
         within_type (name_layout n defs) (name_layout (suc n) defs) (deeper n defs) d.ty l below
 
-resolved_layout : (n : ℕ) (defs : List TypeDef) (t : IrType) (l : Layout) → layout defs t ≡ Some l → layout defs (resolved n defs t) ≡ Some l
+pub resolved_layout : (n : ℕ) (defs : List TypeDef) (t : IrType) (l : Layout) → layout defs t ≡ Some l → layout defs (resolved n defs t) ≡ Some l
 resolved_layout zero defs t l e = e
 resolved_layout (suc n) defs t l e = by_name (option_and_then (definition defs) (name_of t)) refl (λ d f. resolved_layout n defs d.ty l f)
   where
@@ -90,7 +91,7 @@ cut c r (Some f ∷ ls) (suc i) e h =
     record { before = k.before; field = k.field; placed_before = k.placed_before; there = k.there; offset_there = k.offset_there; within = k.within }
 
 -- where a struct has a layout, its fields' layouts give it
-struct_layout : (defs : List TypeDef) (ts : List IrType) (l : Layout) → layout defs (types.Struct ts) ≡ Some l → (r : Layout) × (placed empty (map (layout defs) ts) ≡ Some r) × (l ≡ rounded r)
+pub struct_layout : (defs : List TypeDef) (ts : List IrType) (l : Layout) → layout defs (types.Struct ts) ≡ Some l → (r : Layout) × (placed empty (map (layout defs) ts) ≡ Some r) × (l ≡ rounded r)
 unfolding layout
 struct_layout defs ts l e = by_fields (placed empty (map (layout_by (name_layout (length defs) defs)) ts)) refl (sym (at_struct (name_layout (length defs) defs) ts) ∙ e)
   where
@@ -107,8 +108,8 @@ pub types_of_struct : (ts : List IrType) → struct_types (types.Struct ts) ≡ 
 types_of_struct ts = ap types_in (ap out-IrType (sym (rolls-Struct ts)) ∙ out-roll-IrType (IrType-F.Struct ts))
 
 -- what an offset's computation with capped sizes gives is the offset, where the struct isn't too large
-module _ (table : List Name) (defs : List TypeDef) (t : IrType) (ts : List IrType) (i result : ℕ) (d : Describes table defs) (laid : IsLaid defs t) (small : size defs t ≤ 16777216) (is : resolved (length defs) defs t ≡ types.Struct ts) (h : i < length (fields defs t))
-    (found : (names : TypeName → Option Layout) → Knows table names → (before field : Layout) (at : IrType) → placed empty (map (layout_by names) (take i ts)) ≡ Some before → slice_get ts i ≡ Some at → layout_by names at ≡ Some field → result ≡ min (next_multiple_of (capped before).size field.align) 16777217) where
+module _ (table : List Name) (defs : List TypeDef) (t : IrType) (ts : List IrType) (i result : ℕ) (d : Describes table defs) (laid : IsLaid defs t) (small : size defs t ≤ LARGEST) (is : resolved (length defs) defs t ≡ types.Struct ts) (h : i < length (fields defs t))
+    (found : (names : TypeName → Option Layout) → Knows table names → (before field : Layout) (at : IrType) → placed empty (map (layout_by names) (take i ts)) ≡ Some before → slice_get ts i ≡ Some at → layout_by names at ≡ Some field → result ≡ min (next_multiple_of (capped before).size field.align) TOO_LARGE) where
   the_type : (o : Option IrType) (f : Layout) → option_map (layout defs) o ≡ Some (Some f) → (at : IrType) × (o ≡ Some at) × (layout defs at ≡ Some f)
   the_type None f e = cc
   the_type (Some at) f e = (at, refl, cc)
@@ -116,25 +117,25 @@ module _ (table : List Name) (defs : List TypeDef) (t : IrType) (ts : List IrTyp
   fields_are : fields defs t ≡ ts
   fields_are = ap struct_types is ∙ types_of_struct ts
 
-  at_cut : (r : Layout) → placed empty (map (layout defs) ts) ≡ Some r → (rounded r).size ≤ 16777216 → offset_from empty (map (layout defs) ts) i ≡ Some result
+  at_cut : (r : Layout) → placed empty (map (layout defs) ts) ≡ Some r → (rounded r).size ≤ LARGEST → offset_from empty (map (layout defs) ts) i ≡ Some result
   unfolding layout
   at_cut r e le =
       let k = cut empty r (map (layout defs) ts) i e (let n : length (map (layout defs) ts) ≡ length ts = length-map ts (layout defs) in let m : length (fields defs t) ≡ length ts = ap length fields_are in omega arith) in
       let there = the_type (slice_get ts i) k.field (sym (slice_get-map (layout defs) ts i) ∙ k.there) in
       let before : placed empty (map (layout defs) (take i ts)) ≡ Some k.before = ap (placed empty) (sym (take_map (layout defs) i ts)) ∙ k.placed_before in
-      let gives : result ≡ min (next_multiple_of (capped k.before).size k.field.align) 16777217 = found (name_layout (length defs) defs) d.layouts k.before k.field there.0 before there.1 there.2 in
+      let gives : result ≡ min (next_multiple_of (capped k.before).size k.field.align) TOO_LARGE = found (name_layout (length defs) defs) d.layouts k.before k.field there.0 before there.1 there.2 in
       let within = k.within in
-      let fits : k.before.size ≤ 16777216 = omega arith in
-      let exact : min k.before.size 16777217 ≡ k.before.size = omega arith in
-      let same : min (next_multiple_of (capped k.before).size k.field.align) 16777217 ≡ min (next_multiple_of k.before.size k.field.align) 16777217 = ap (λ (z : ℕ). min (next_multiple_of z k.field.align) 16777217) exact in
-      let all : min (next_multiple_of k.before.size k.field.align) 16777217 ≡ offset_after k.before k.field = omega arith in
+      let fits : k.before.size ≤ LARGEST = omega arith in
+      let exact : min k.before.size TOO_LARGE ≡ k.before.size = omega arith in
+      let same : min (next_multiple_of (capped k.before).size k.field.align) TOO_LARGE ≡ min (next_multiple_of k.before.size k.field.align) TOO_LARGE = ap (λ (z : ℕ). min (next_multiple_of z k.field.align) TOO_LARGE) exact in
+      let all : min (next_multiple_of k.before.size k.field.align) TOO_LARGE ≡ offset_after k.before k.field = omega arith in
       k.offset_there ∙ ap Some (sym (gives ∙ same ∙ all))
 
   pub offset_is : offset defs t i ≡ Some result
   offset_is = ap (λ (xs : List IrType). offset_from empty (map (layout defs) xs) i) fields_are ∙ by_layout (layout defs t) refl laid small
     where
-      by_layout : (o : Option Layout) → layout defs t ≡ o → IsSome o → (unwrap_or o empty).size ≤ 16777216 → offset_from empty (map (layout defs) ts) i ≡ Some result
+      by_layout : (o : Option Layout) → layout defs t ≡ o → IsSome o → (unwrap_or o empty).size ≤ LARGEST → offset_from empty (map (layout defs) ts) i ≡ Some result
       by_layout None s some le = cc
       by_layout (Some l) s some le =
           let r = struct_layout defs ts l (ap (layout defs) (sym is) ∙ resolved_layout (length defs) defs t l s) in
-          at_cut r.0 r.1 (subst (λ (z : Layout). z.size ≤ 16777216) r.2 le)
+          at_cut r.0 r.1 (subst (λ (z : Layout). z.size ≤ LARGEST) r.2 le)

@@ -1,6 +1,7 @@
 -- Each step through a type gives the capped layout of what was gone through.
 use Rattle.std.proofs.Common.{◌≡◌, ℕ, min, List, ◌∷◌, map, Option, Some, None, refl, sym, ap, ◌∙◌, arith}
 use Rattle.std.specs.Option.{option_map}
+use Rattle.ir_core.specs.declared.limits.TheConstants.{TOO_LARGE}
 use Rattle.ir_core.specs.declared.layout.Layout.{Layout}
 use Rattle.ir_core.specs.declared.ty.TypeName.{TypeName}
 use Rattle.ir_core.specs.declared.ty.IrType.{IrType, Row_of-IrType, end_of-IrType, more_of-IrType, items-the_row-IrType, items_hidden-the_row-IrType-1}
@@ -22,7 +23,7 @@ pub at_struct : (names : TypeName → Option Layout) (fields : List IrType) → 
 at_struct names fields = ap (λ (ls : List (Option Layout)). option_map rounded (placed empty ls)) (row_items names _ (hidden-the_row-IrType-1 fields) ∙ ap (map (layout_by names)) (items_hidden-the_row-IrType-1 fields))
 
 capped_twice : (l : Layout) → capped (capped l) ≡ capped l
-capped_twice l i = record { size = let e : min (min l.size 16777217) 16777217 ≡ min l.size 16777217 = omega arith in e i; align = l.align }
+capped_twice l i = record { size = let e : min (min l.size TOO_LARGE) TOO_LARGE ≡ min l.size TOO_LARGE = omega arith in e i; align = l.align }
 
 pub is_capped : (a b : Layout) → a ≡ capped b → a ≡ capped a
 is_capped a b e = e ∙ sym (capped_twice b) ∙ ap capped (sym e)

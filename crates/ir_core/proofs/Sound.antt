@@ -1,7 +1,7 @@
 -- What the rules of a module say of a run: its registers have numbers of their own, no register is written twice in a block,
 -- allocas stand in the entry block, and nothing leads back there.
 use Rattle.std.proofs.Common.{◌≡◌, ◌≢◌, ℕ, ◌<◌, List, length, drop, Some, slice_get}
-use Rattle.std.specs.List.{filter_map}
+use Rattle.std.specs.List.{filter_map, AllByRecursion as Each}
 use Rattle.oi_base.specs.declared.ids.RegId.{RegId}
 use Rattle.ir_core.specs.declared.flat.Phi.{Phi}
 use Rattle.ir_core.specs.declared.flat.FlatInstr.{FlatInstr}
@@ -13,7 +13,7 @@ use Rattle.ir_core.specs.declared.module.Module.{Module}
 use Rattle.ir_core.specs.Formed.{written_by, targets}
 use Rattle.ir_core.specs.Source.{block_at, entry_label}
 use Rattle.ir_core.specs.Plain.{numbers, registers}
-use Rattle.ir_core.proofs.Lists.{Has, Each, Apart}
+use Rattle.ir_core.proofs.Lists.{Has, Apart}
 
 -- the function with this position has a block with this label
 pub record IsAt (m : Module) (f x : ℕ) (g : Func) (k : FlatBlock) : Type 0 where

@@ -1,6 +1,6 @@
 -- The rules on names, allocas and the entry block say what a run needs.
 use Rattle.std.proofs.Common.{◌≡◌, ◌≢◌, inl, inr, ℕ, zero, suc, ◌<◌, Bool, true, false, if◌then◌else◌, bytes_eq, codes, List, [], ◌∷◌, ◌++◌, map, length, Option, Some, None, slice_get, Contains, refl, sym, ap, ◌∙◌, subst}
-use Rattle.std.specs.List.{flat_map, filter_map, cons_option, find}
+use Rattle.std.specs.List.{flat_map, filter_map, cons_option, find, AllByRecursion as Each}
 use Rattle.std.specs.Option.{option_map, option_map_or, option_and_then}
 use Rattle.std.proofs.lemmas.List.{map-append}
 use Rattle.std.proofs.lemmas.List.Folds.{find_at}
@@ -33,7 +33,7 @@ use Rattle.ir_core.specs.Source.{is_labelled, entry_label}
 use Rattle.ir_core.specs.Plain.{numbers, registers, results, RunsAsTheSource}
 use Rattle.ir_core.specs.Valid.{IsValid, IsValidFunc}
 use Rattle.ir_core.specs.ValidFunc.{LocalAt, instr_local, block_locals_at, locals_at, IsAlloca}
-use Rattle.ir_core.proofs.Lists.{Has, Each, Apart, each_of, each_map, each_from, each_left, each_right, each_part, apart_mapped, apart_right, apart_part, apart_across, has_right, has_part, has_at, at_has, has_mapped, has_made, contains, all_at, has_source, mapped, mapped_parts, place_within, place_has}
+use Rattle.ir_core.proofs.Lists.{Has, Apart, each_of, each_map, each_from, each_left, each_right, each_part, apart_mapped, apart_right, apart_part, apart_across, has_right, has_part, has_at, at_has, has_mapped, has_made, contains, all_at, has_source, mapped, mapped_parts, place_within, place_has}
 use Rattle.ir_core.proofs.Sound.{IsAt, coming, IsRegister, Sound}
 use Rattle.ir_core.proofs.SourceRuns.{runs_as_the_source}
 

@@ -1,6 +1,6 @@
 -- A module's run and that of its plain bodies stand alike after each turn.
 use Rattle.std.proofs.Common.{◌≡◌, ◌≢◌, ℕ, zero, suc, ◌+◌, ◌==◌, Bool, true, false, not, cond, if◌then◌else◌, List, [], ◌∷◌, ◌++◌, map, length, take, Option, Some, None, slice_get, refl, sym, ap, ◌∙◌, subst, arith}
-use Rattle.std.specs.List.{position_or_len, find}
+use Rattle.std.specs.List.{position_or_len, find, AllByRecursion as Each}
 use Rattle.std.specs.Option.{option_map, option_map_or, option_and_then}
 use Rattle.std.specs.Fn.{iterate}
 use Rattle.std.proofs.lemmas.Bool.Decides.{nat_tests}
@@ -23,7 +23,6 @@ use Rattle.ir_core.specs.Instructions.{block_rows}
 use Rattle.ir_core.specs.Source.{is_labelled, block_at, entry_label, bound, called, carried_out, at_block, source_step, source_start, main_number, src}
 use Rattle.ir_core.specs.Constants.{global_memory}
 use Rattle.ir_core.specs.Plain.{other_reg, other_instr, renumbered, numbers, is_local, plain_body, plain_program, RunsAsTheSource}
-use Rattle.ir_core.proofs.Lists.{Each}
 use Rattle.ir_core.proofs.Renamed.{other_effect, effect_other, end_other}
 use Rattle.ir_core.proofs.Written.{Fits, EndFits, fits, leads}
 use Rattle.ir_core.proofs.Sound.{IsAt, coming, Sound}

@@ -2,6 +2,7 @@
 use Rattle.std.proofs.Common.{◌≡◌, ◌⊎◌, inl, inr, ℕ, ◌<◌, zero, suc, List, [], ◌∷◌, Some, None, refl, sym, ap, ◌∙◌, subst, arith}
 use Rattle.std.specs.List.{flat_map}
 use Rattle.std.specs.Prelude.{Contains, All, slice_get, slice_index_or}
+use Rattle.ir_core.specs.declared.limits.TheConstants.{MOST_NAME_BYTES}
 use Rattle.oi_base.specs.declared.ids.Place.{Place}
 use Rattle.oi_base.specs.declared.words.Width.TheVariants.{W32}
 use Rattle.ir_core.specs.declared.ty.TypeName.{TypeName}
@@ -123,7 +124,7 @@ no_totals : (p : Place) → BreaksTotals whole p → ⊥
 no_totals p (inl h) = nowhere h.0 h.1 h.2
 no_totals p (inr h) =
     let here : at 1 1 ≡ p = ap Introduced.place (only _ h.0 h.1) ∙ h.2 in
-    let sum : 67108864 < name_bytes whole (at 1 1) = subst (λ (q : Place). 67108864 < name_bytes whole q) (sym here) h.3 in
+    let sum : MOST_NAME_BYTES < name_bytes whole (at 1 1) = subst (λ (q : Place). MOST_NAME_BYTES < name_bytes whole q) (sym here) h.3 in
     omega (arith, sum)
 
 no_alignments : (p : Place) → BreaksAlignments whole p → ⊥

@@ -21,7 +21,7 @@ use Rattle.ir_core.specs.declared.flat.FlatEnd.TheVariants.{Ret, Br, Cond, Switc
 use Rattle.ir_core.specs.declared.flat.FlatBlock.{FlatBlock}
 use Rattle.ir_core.specs.declared.flat.FlatBody.{FlatBody}
 use Rattle.oi_base.specs.Words.{modulus, bits}
-use Rattle.ir_core.specs.Memory.{scalar_size}
+use Rattle.ir_core.specs.Memory.{scalar_size, PointsWithin}
 use Rattle.ir_core.specs.Flat.{Program}
 
 -- ---- what is written and used
@@ -228,10 +228,12 @@ pub record IsFormedBody (types : ℕ → Scalar) (funcs : ℕ → FuncType) (own
   pub ends : (b : ℕ) (k : FlatBlock) → IsBlock body b k → IsEndTyped types own.result k.end
   pub defined_first : DefinedFirst body
 
--- a program: each body is formed, types agree between a call and its callee, main is there, and addresses name globals
+-- a program: each body is formed, types agree between a call and its callee, main is there, addresses name globals, and so do the
+-- pointers in the globals' bytes
 pub record IsFormed (p : Program) (types : ℕ → ℕ → Scalar) (funcs : ℕ → FuncType) : Type 0 where
   pub bodies : (f : ℕ) (body : FlatBody) → p.body f ≡ Some body → IsFormedBody (types f) funcs (funcs f) body
   pub has_main : (body : FlatBody) × (p.body p.main ≡ Some body)
   pub main_type : ((funcs p.main).params ≡ []) × ((funcs p.main).result ≡ Some (scalar.Word W32))
   pub called : (f b n : ℕ) (body : FlatBody) (k : FlatBlock) (d : Option RegId) (g : _) (args : List FlatOp) → p.body f ≡ Some body → IsBlock body b k → slice_get k.code n ≡ Some (Call d g args) → (callee : FlatBody) × (p.body g.0 ≡ Some callee)
   pub addresses : (f : ℕ) (body : FlatBody) → p.body f ≡ Some body → All (NamesGlobal (length p.globals)) (all_uses body)
+  pub pointers : PointsWithin p.globals

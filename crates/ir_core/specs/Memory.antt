@@ -1,6 +1,6 @@
 -- Values, bytes and blocks of memory. Memory is a list of blocks without addresses; LangRef calls a block an allocated
 -- object, and what follows is the part of its memory model that these types and instructions need.
-use Rattle.std.specs.Prelude.{ℕ, zero, suc, ◌+◌, ◌*◌, ◌/◌, ◌%◌, Bool, true, false, not, ◌&&◌, nat_eq, nat_le, nat_lt, if◌then◌else◌, List, [], ◌∷◌, ◌++◌, length, take, drop, replicate, Option, Some, None, slice_get, slice_set}
+use Rattle.std.specs.Prelude.{◌≡◌, ℕ, ◌<◌, zero, suc, ◌+◌, ◌*◌, ◌/◌, ◌%◌, Bool, true, false, not, ◌&&◌, nat_eq, nat_le, nat_lt, if◌then◌else◌, List, [], ◌∷◌, ◌++◌, length, take, drop, replicate, Option, Some, None, slice_get, slice_set}
 use Rattle.oi_base.specs.declared.words.Width.TheVariants.{W1, W8, W16, W32}
 use Rattle.ir_core.specs.declared.flat.Scalar.{Scalar}
 use Rattle.ir_core.specs.declared.flat.Scalar.TheVariants.{Word, Pointer}
@@ -30,6 +30,15 @@ pub record Block : Type 0 where
 -- memory: its blocks, which are never given away, in the order in which they were made
 abbrev pub Memory : Type 0
 Memory = List Block
+
+-- a part of a pointer is one of a pointer to one of so many blocks, with an offset of 32 bits
+abbrev pub IsPartWithin : ℕ → Byte → Type 0
+IsPartWithin blocks (PartOf b o k) = (b < blocks) × (o < 4294967296)
+IsPartWithin blocks c = Unit {0}
+
+-- the parts of pointers in memory are those of pointers to its own blocks
+abbrev pub PointsWithin : Memory → Type 0
+PointsWithin mem = (i : ℕ) (b : Block) → slice_get mem i ≡ Some b → (k : ℕ) (c : Byte) → slice_get b.bytes k ≡ Some c → IsPartWithin (length mem) c
 
 abbrev pub scalar_size : Scalar → ℕ
 scalar_size (Word W1) = 1

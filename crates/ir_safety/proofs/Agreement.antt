@@ -1,5 +1,6 @@
 -- The instructions, phis and ends of a valid module's plain bodies have operands of the types that they need.
 use Rattle.std.proofs.Common.{◌≡◌, inl, inr, ℕ, suc, Bool, true, false, if◌then◌else◌, List, [], ◌∷◌, ◌++◌, map, Option, Some, None, slice_get, All, Contains, refl, sym, ap, ◌∙◌, subst, arith}
+use Rattle.std.specs.List.{AllByRecursion as Each}
 use Rattle.std.specs.Option.{option_map}
 use Rattle.std.proofs.lemmas.List.Elements.{All-from_recursion, recursion_from_All, All-map, All-contains}
 use Rattle.oi_base.specs.declared.ids.Place.{Place}
@@ -40,7 +41,7 @@ use Rattle.ir_core.specs.Valid.{IsValid, IsValidFunc}
 use Rattle.ir_core.specs.ValidConsts.{IsInteger, Walk, WalkFrom, index_of}
 use Rattle.ir_core.specs.ValidModule.{Introduced, introduced, introduced_globals, introduced_funcs}
 use Rattle.ir_core.specs.ValidOps.{IsScalar, op_result, LocalHasType, OperandAgrees, OpAgrees, EndAgrees, DoesAgree, StepAgrees, OperandFits, CountFits, IsDefinedAs, IsExternal, CallsWell}
-use Rattle.ir_core.proofs.Lists.{Has, Each, has_right, has_at, at_has, all_at, has_in, has_mapped}
+use Rattle.ir_core.proofs.Lists.{Has, has_right, has_at, at_has, all_at, has_in, has_mapped}
 use Rattle.ir_safety.proofs.Safe.{NotFalse, true_too, and_so, in_turn, IsTypedInstr, IsTypedEnd}
 use Rattle.ir_safety.proofs.Elements.{each_joined}
 use Rattle.ir_safety.proofs.PlainEdges.{block_of}

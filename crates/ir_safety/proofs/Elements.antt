@@ -1,7 +1,7 @@
 -- Lists that are joined or made of parts, places of keys that stand once, and values that may be there.
 use Rattle.std.proofs.Common.{◌≡◌, ◌≢◌, ◌⊎◌, inl, inr, ℕ, zero, suc, ◌<◌, List, [], ◌∷◌, ◌++◌, map, length, Option, Some, None, slice_get, refl, sym, ap, ◌∙◌}
-use Rattle.std.specs.List.{flat_map}
-use Rattle.ir_core.proofs.Lists.{Has, Each, Apart, each_of, has_at, has_mapped, element, place, place_within, place_has}
+use Rattle.std.specs.List.{flat_map, AllByRecursion as Each}
+use Rattle.ir_core.proofs.Lists.{Has, Apart, each_of, has_at, has_mapped, element, place, place_within, place_has}
 
 -- ---- values that may be there
 

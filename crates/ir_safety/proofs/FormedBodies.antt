@@ -19,6 +19,7 @@ use Rattle.ir_safety.proofs.FormedNumbers.{no_way_back, few_params, written_once
 use Rattle.ir_safety.proofs.FormedUses.{used, addresses}
 use Rattle.ir_safety.proofs.FormedPhis.{phi_formed, phi_register}
 use Rattle.ir_safety.proofs.FormedSizes.{code_sizes, flat_cases}
+use Rattle.ir_safety.proofs.GlobalPointers.{globals_within}
 use Rattle.ir_safety.proofs.SafeBodies.{placed}
 use Rattle.ir_safety.proofs.ValidRuns.{plain_is_safe}
 
@@ -65,4 +66,5 @@ module _ (m : Module) (proper : IsProper m) (valid : IsValid m) where
     addresses = λ g body e.
         placed m (λ types own x. All (NamesGlobal (length (global_memory m))) (all_uses x)) g body
         (addresses m proper valid g) e;
+    pointers = globals_within m valid;
   }

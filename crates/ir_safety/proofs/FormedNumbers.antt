@@ -2,7 +2,7 @@
 -- registers, targets are blocks, and none is the entry block.
 use Rattle.std.proofs.Common.{◌≡◌, ◌≢◌, inr, ℕ, suc, ◌<◌, ◌≤◌, ◌==◌, Bool, true, false, List, [], ◌∷◌, ◌++◌, map, length, Option, Some, None, slice_get, All, Contains, refl, sym, ap, ◌∙◌, subst, arith}
 use Rattle.std.specs.Prelude.{AllPairs}
-use Rattle.std.specs.List.{flat_map, filter_map, cons_option}
+use Rattle.std.specs.List.{flat_map, filter_map, cons_option, AllByRecursion as Each}
 use Rattle.std.specs.Option.{option_map}
 use Rattle.std.proofs.lemmas.Bool.Decides.{nat_tests}
 use Rattle.std.proofs.lemmas.List.{map-append, length-append, length-map}
@@ -23,7 +23,7 @@ use Rattle.ir_core.specs.Instructions.{block_rows}
 use Rattle.ir_core.specs.Plain.{Numbers, other_phi, other_instr, renumbered, numbers, results, registers, plain_body}
 use Rattle.ir_core.specs.Proper.{IsProper, IsProperFunc}
 use Rattle.ir_core.specs.Valid.{IsValid, IsValidFunc}
-use Rattle.ir_core.proofs.Lists.{Has, Each, Apart, each_of, each_from, has_at, has_right, has_part, has_made, has_mapped, has_source, map_source, contains, all_at, element, mapped_parts, place, place_within}
+use Rattle.ir_core.proofs.Lists.{Has, Apart, each_of, each_from, has_at, has_right, has_part, has_made, has_mapped, has_source, map_source, contains, all_at, element, mapped_parts, place, place_within}
 use Rattle.ir_core.proofs.SoundRules.{same_name}
 use Rattle.ir_safety.proofs.Elements.{each_joined, in_part, mapped_twice, one_key}
 use Rattle.ir_safety.proofs.RowUses.{written_other}

@@ -5,6 +5,7 @@ use Rattle.std.proofs.lemmas.Bool.{cases_lt}
 use Rattle.std.proofs.lemmas.List.{length-map}
 use Rattle.std.proofs.lemmas.List.Elements.{All-head, All-tail, All-map, All-contains}
 use Rattle.std.proofs.lemmas.List.Kept.{AllPairs-cons}
+use Rattle.ir_core.specs.declared.limits.TheConstants.{LARGEST}
 use Rattle.oi_base.specs.declared.ids.Place.{Place}
 use Rattle.oi_base.specs.declared.ids.RegId.{RegId}
 use Rattle.oi_base.specs.declared.words.Width.{Width}
@@ -112,7 +113,7 @@ module _ (m : Module) (n : Numbers) where
   counted : (p : Place) (r : Option LocalId) (t : IrType) (c : TypedCount) (stated : Option ℕ) → (MakesTooMuch m.types.defs (record { place = p; result = r; op = ops.Alloca t (Some c) stated }) → ⊥)
       → (z : ℤ) → c.count ≡ z → IsCount z → size m.types.defs t * unsigned_abs z < 4294967296
   counted p r t c stated much (pos k) e h =
-      let bound : k * size m.types.defs t ≤ 16777216 = ⊎_elim (λ big. absurd (much (t, c, stated, k, refl, e, big))) (λ le. le) (cases_lt 16777216 (k * size m.types.defs t)) in
+      let bound : k * size m.types.defs t ≤ LARGEST = ⊎_elim (λ big. absurd (much (t, c, stated, k, refl, e, big))) (λ le. le) (cases_lt LARGEST (k * size m.types.defs t)) in
       subst (λ (x : ℕ). x < 4294967296) (mul_comm k (size m.types.defs t)) (omega (arith, bound))
   counted p r t c stated much (negsuc k) e h = absurd h
 

@@ -1,8 +1,7 @@
 -- The operands of a plain body: each register among them is a parameter or written, and each address is that of a global variable.
 use Rattle.std.proofs.Common.{◌≡◌, ◌⊎◌, inl, inr, ℕ, ◌<◌, List, [], ◌∷◌, ◌++◌, map, length, Some, slice_get, All, Contains, refl, sym, subst}
-use Rattle.std.specs.List.{flat_map, filter_map}
+use Rattle.std.specs.List.{flat_map, filter_map, AllByRecursion as Each}
 use Rattle.std.proofs.lemmas.Bool.{cases_eq}
-use Rattle.std.proofs.lemmas.List.{length-map}
 use Rattle.std.proofs.lemmas.List.Folds.{flat_map-map}
 use Rattle.std.proofs.lemmas.List.Elements.{All-from_recursion}
 use Rattle.ir_core.specs.declared.flat.Scalar.{Scalar}
@@ -16,7 +15,6 @@ use Rattle.ir_core.specs.declared.ty.IrType.{IrType}
 use Rattle.ir_core.specs.declared.constant.Const.{Const}
 use Rattle.ir_core.specs.declared.constant.Const as consts
 use Rattle.ir_core.specs.declared.module.SymId.{SymId}
-use Rattle.ir_core.specs.declared.module.GlobalVar.{GlobalVar}
 use Rattle.ir_core.specs.declared.module.Module.{Module}
 use Rattle.ir_core.specs.declared.op.LocalId.{LocalId}
 use Rattle.ir_core.specs.declared.op.Operand.{Operand}
@@ -27,7 +25,7 @@ use Rattle.ir_core.specs.declared.func.Func.{Func}
 use Rattle.ir_core.specs.Parts.{instrs}
 use Rattle.ir_core.specs.Operands.{Step, Does, Ends, steps, place_of, operands_of}
 use Rattle.ir_core.specs.Operands.{typed as with_type}
-use Rattle.ir_core.specs.Constants.{zero_of, scalar_of, constant, global_number, global_block, global_memory}
+use Rattle.ir_core.specs.Constants.{zero_of, scalar_of, constant, global_number, global_memory}
 use Rattle.ir_core.specs.Formed.{used_by, used_at_end, uses, all_uses, all_writes, IsParamOrWritten, NamesGlobal}
 use Rattle.ir_core.specs.Instructions.{operand, typed, terminator}
 use Rattle.ir_core.specs.Plain.{other_operand, numbers, plain_body}
@@ -35,12 +33,13 @@ use Rattle.ir_core.specs.Proper.{IsProper, IsProperFunc}
 use Rattle.ir_core.specs.Valid.{IsValid, IsValidFunc}
 use Rattle.ir_core.specs.ValidConsts.{IsVariable}
 use Rattle.ir_core.specs.ValidFunc.{IsParam, IsRegister, IsKnown}
-use Rattle.ir_core.proofs.Lists.{Has, Each, each_of, each_from, has_left, has_right, has_part, has_made, has_mapped, map_source, contains, has_in, all_at, place_within}
+use Rattle.ir_core.proofs.Lists.{Has, each_of, each_from, has_left, has_right, has_part, has_made, has_mapped, map_source, contains, has_in, all_at}
 use Rattle.ir_safety.proofs.Safe.{NotFalse, and_so, in_turn, true_too}
 use Rattle.ir_safety.proofs.Elements.{in_part, each_joined}
 use Rattle.ir_safety.proofs.Registers.{param_first}
 use Rattle.ir_safety.proofs.RowUses.{used_other, end_used_other, HasRow, result_row}
 use Rattle.ir_safety.proofs.Decided.{so, is_less, is_contained, either}
+use Rattle.ir_safety.proofs.GlobalPointers.{variable_number}
 use Rattle.ir_safety.proofs.PlainEdges.{row}
 use Rattle.ir_safety.proofs.PlainRows.{instr_row, phi_row, IsOneOf, row_is, end_among}
 use Rattle.ir_safety.proofs.PlainSources.{does, ends, code_source, source_of, pair_of, value_of}
@@ -165,13 +164,7 @@ module _ (m : Module) (proper : IsProper m) (valid : IsValid m) (g : ℕ) (f : F
   -- ---- addresses
 
   names_global : (s : SymId) → NotFalse (IsVariable m s) → global_number m s < length (global_memory m)
-  names_global s h = so (is_less (global_number m s) (length (global_memory m))) (in_turn h by_variable)
-    where
-      by_variable : IsVariable m s → global_number m s < length (global_memory m)
-      by_variable (v, has, e) =
-          let n : length (global_memory m) ≡ length m.globals = length-map m.globals (global_block m) in
-          let lt : global_number m v.name < length m.globals = place_within (λ (w : GlobalVar). w.name.0) m.globals v (has_in m.globals v has) in
-          subst (λ (k : ℕ). global_number m s < k) (sym n) (subst (λ (y : SymId). global_number m y < length m.globals) e lt)
+  names_global s h = so (is_less (global_number m s) (length (global_memory m))) (in_turn h (variable_number m s))
 
   -- each address that is used is that of a global variable
   pub addresses : All (NamesGlobal (length (global_memory m))) (all_uses (plain_body m f))

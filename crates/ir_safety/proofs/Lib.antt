@@ -20,6 +20,7 @@ pub mod Assigned
 pub mod ValidRuns
 pub mod Decided
 pub mod FormedNumbers
+pub mod GlobalPointers
 pub mod FormedUses
 pub mod TypeSizes
 pub mod OperandMeanings

@@ -1,10 +1,11 @@
 -- Loads and stores keep the offsets of pointers to 32 bits.
 use Rattle.std.proofs.Common.{◌≡◌, ℕ, zero, suc, ◌+◌, ◌/◌, Bool, true, false, not, ◌&&◌, nat_lt, if◌then◌else◌, List, [], ◌∷◌, ◌++◌, length, take, drop, replicate, Option, Some, None, slice_get, slice_set, refl, subst}
+use Rattle.std.specs.List.{AllByRecursion as Each}
 use Rattle.ir_core.specs.declared.flat.Scalar.{Scalar}
 use Rattle.ir_core.specs.declared.flat.Scalar.TheVariants.{Word, Pointer}
 use Rattle.oi_base.specs.Words.{modulus}
 use Rattle.ir_core.specs.Memory.{Value, Bits, At, NullPointer, Poisoned, Byte, Unset, PoisonByte, Octet, PartOf, Block, Memory, scalar_size, octets, number, stored, are_parts, bits_below, null_or_poison, pointer_of, loaded, is_within, load_from, load, written, store_to, store, fresh, killed_at, kill, kill_all}
-use Rattle.ir_core.proofs.Lists.{Each, each_from, each_of, has_at, at_has}
+use Rattle.ir_core.proofs.Lists.{each_from, each_of, has_at, at_has}
 use Rattle.ir_safety.specs.TypedRuns.{HasOffset, HasPartOffset, HoldsOffsets}
 
 -- ---- bytes

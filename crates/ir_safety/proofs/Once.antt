@@ -2,7 +2,7 @@
 -- stands twice.
 use Rattle.std.proofs.Common.{◌≡◌, ◌≢◌, inl, inr, ℕ, List, [], ◌∷◌, ◌++◌, map, Option, Some, None, refl, sym, ap, ◌∙◌, subst, arith}
 use Rattle.std.specs.Prelude.{AllPairs}
-use Rattle.std.specs.List.{flat_map, filter_map, cons_option}
+use Rattle.std.specs.List.{flat_map, filter_map, cons_option, AllByRecursion as Each}
 use Rattle.std.proofs.lemmas.List.{map-append}
 use Rattle.std.proofs.lemmas.List.Concat.{flat_map_single}
 use Rattle.std.proofs.lemmas.List.Elements.{All-from_recursion}
@@ -16,7 +16,7 @@ use Rattle.ir_core.specs.declared.func.Param.{Param}
 use Rattle.ir_core.specs.Plain.{results, registers}
 use Rattle.ir_core.specs.Valid.{IsValidFunc}
 use Rattle.ir_core.specs.ValidFunc.{LocalAt, instr_local, block_locals_at, locals_at}
-use Rattle.ir_core.proofs.Lists.{Has, Each, Apart, each_of, each_from, has_part, apart_left, apart_right, apart_across, apart_mapped, mapped_parts, map_source}
+use Rattle.ir_core.proofs.Lists.{Has, Apart, each_of, each_from, has_part, apart_left, apart_right, apart_across, apart_mapped, mapped_parts, map_source}
 use Rattle.ir_core.proofs.SoundRules.{key, same_name}
 use Rattle.ir_safety.proofs.Elements.{each_joined, in_part, mapped_twice}
 

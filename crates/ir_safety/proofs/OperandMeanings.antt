@@ -2,6 +2,7 @@
 -- of a constant `getelementptr` is that of its path.
 use Rattle.std.proofs.Common.{◌≡◌, inl, inr, ℕ, ◌+◌, ◌%◌, ◌<◌, ℤ, pos, List, [], ◌∷◌, ◌++◌, map, Option, Some, None, slice_get, refl, sym, ap, ◌∙◌, subst, arith}
 use Rattle.std.specs.Prelude.{unwrap_or}
+use Rattle.std.specs.List.{AllByRecursion as Each}
 use Rattle.std.proofs.lemmas.List.Elements.{recursion_from_All}
 use Rattle.oi_base.specs.declared.words.Width.{Width}
 use Rattle.oi_base.specs.declared.words.Width.TheVariants.{W32}
@@ -29,13 +30,12 @@ use Rattle.ir_core.specs.Instructions.{register, operand, typed}
 use Rattle.ir_core.specs.ValidConsts.{plain, IsInteger, Fits, FitsType, const_index, GoesInto, Walk, ConstWalk, IndicesFit, Meaning, OfLocal, IsWord, IsNull, IsAddress, IsPoison, HasNone, index_moves, distance_by, distance_into, gep_offset, meaning}
 use Rattle.ir_core.specs.ValidConsts.{field_number as field_of_count}
 use Rattle.ir_core.specs.ValidOps.{IsScalar, ConstAgrees, ValueAgrees, OperandAgrees, ConstFits, OperandFits}
-use Rattle.ir_core.proofs.Lists.{Each}
 use Rattle.ir_safety.proofs.TypeSizes.{array_out}
 
 -- ---- one level of a type
 
 -- from an array an index leads to its elements' type
-item_of : (t : IrType) (n : ℕ) (u : IrType) → out-IrType t ≡ IrType-F.Array n u → element t ≡ Some u
+pub item_of : (t : IrType) (n : ℕ) (u : IrType) → out-IrType t ≡ IrType-F.Array n u → element t ≡ Some u
 item_of Void n u e = absurd (let clash : IrType-F.Void ≡ IrType-F.Array n u = sym outs-Void ∙ e in cc)
 item_of (Int w) n u e = absurd (let clash : IrType-F.Int w ≡ IrType-F.Array n u = sym (outs-Int w) ∙ e in cc)
 item_of Ptr n u e = absurd (let clash : IrType-F.Ptr ≡ IrType-F.Array n u = sym outs-Ptr ∙ e in cc)
@@ -54,7 +54,7 @@ no_item (Named x) k u e = refl
 
 -- ---- bytes of paths
 
-abbrev bytes : Path → ℕ
+abbrev pub bytes : Path → ℕ
 bytes p = all_bytes p.bytes p.terms
 
 bytes_sum : (x y : ℕ) (ts us : List Term) → all_bytes (x + y) (ts ++ us) ≡ all_bytes x ts + all_bytes y us
@@ -62,7 +62,7 @@ bytes_sum x y [] [] = refl
 bytes_sum x y [] (u ∷ us) = let rest : all_bytes (x + y) us ≡ x + all_bytes y us = bytes_sum x y [] us in omega (arith, rest)
 bytes_sum x y (t ∷ ts) us = let rest = bytes_sum x y ts us in omega (arith, rest)
 
-bytes_joined : (a b : Path) → bytes (joined a b) ≡ bytes a + bytes b
+pub bytes_joined : (a b : Path) → bytes (joined a b) ≡ bytes a + bytes b
 bytes_joined a b = bytes_sum a.bytes b.bytes a.terms b.terms
 
 -- an index over things of one size

@@ -1,6 +1,7 @@
 -- What the rows of a function's instructions write and use: the results that the instructions name, and their operands with their
 -- types.
 use Rattle.std.proofs.Common.{◌≡◌, ◌⊎◌, inl, inr, ℕ, false, bytes_eq, codes, List, [], ◌∷◌, map, Option, Some, None, refl, sym, subst}
+use Rattle.std.specs.List.{AllByRecursion as Each}
 use Rattle.std.specs.Option.{option_map}
 use Rattle.std.proofs.lemmas.Bool.{cond_both}
 use Rattle.oi_base.specs.declared.ids.RegId.{RegId}
@@ -28,7 +29,7 @@ use Rattle.ir_core.specs.Operands.{typed as with_type}
 use Rattle.ir_core.specs.Constants.{path, walk, joined, into, inside, element_of}
 use Rattle.ir_core.specs.Instructions.{register, typed, index, first, func_number, entry, instruction, phi, call, terminator}
 use Rattle.ir_core.specs.Formed.{of_result, written_by, used_by, used_at_end}
-use Rattle.ir_core.proofs.Lists.{Has, Each, each_map}
+use Rattle.ir_core.proofs.Lists.{Has, each_map}
 
 -- a call is one of four instructions
 pub call_is : (m : Module) (d : Option RegId) (s : SymId) (args : List FlatOp) (Is : FlatInstr → Type 0)

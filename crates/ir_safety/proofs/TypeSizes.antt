@@ -2,9 +2,11 @@
 -- address's terms are small.
 use Rattle.std.proofs.Common.{◌≡◌, inl, inr, ⊎_elim, ℕ, zero, suc, ◌<◌, ◌≤◌, max, List, [], ◌∷◌, length, Option, Some, None, slice_get, All, Contains, refl, sym, ap, subst, arith}
 use Rattle.std.specs.Prelude.{unwrap_or}
+use Rattle.std.specs.List.{AllByRecursion as Each}
 use Rattle.std.specs.Option.{option_map, option_map_or, option_and_then}
 use Rattle.std.proofs.lemmas.Bool.{cases_lt}
 use Rattle.std.proofs.lemmas.List.Elements.{All-nil, All-cons}
+use Rattle.ir_core.specs.declared.limits.TheConstants.{LARGEST}
 use Rattle.oi_base.specs.declared.words.Width.{Width}
 use Rattle.oi_base.specs.declared.words.Width.TheVariants.{W1, W8, W16, W32}
 use Rattle.ir_core.specs.declared.flat.Term.{Term}
@@ -20,7 +22,7 @@ use Rattle.ir_core.specs.Formed.{IsAlign}
 use Rattle.ir_core.specs.Sizes.{word_layout, array_of, empty, after, rounded, placed, layout_by, field_layouts, definition, name_layout, layout, size, align, name_of, resolved, types_in, struct_types, fields}
 use Rattle.ir_core.specs.ValidOps.{IsScalar}
 use Rattle.ir_core.specs.ValidTypes.{directly_in, StandsIn, IsTooLarge, IsGoodAlign}
-use Rattle.ir_core.proofs.Lists.{Has, Each, contains, has_at, has_in}
+use Rattle.ir_core.proofs.Lists.{Has, contains, has_at, has_in}
 
 -- ---- alignments
 
@@ -129,8 +131,8 @@ module _ (defs : List TypeDef) where
   abbrev pub IsSmall : IrType → Type 0
   IsSmall t = IsTooLarge defs t → ⊥
 
-  pub small_size : (t : IrType) → IsSmall t → size defs t ≤ 16777216
-  small_size t small = ⊎_elim (λ big. absurd (small (t, inl refl, big))) (λ le. le) (cases_lt 16777216 (size defs t))
+  pub small_size : (t : IrType) → IsSmall t → size defs t ≤ LARGEST
+  small_size t small = ⊎_elim (λ big. absurd (small (t, inl refl, big))) (λ le. le) (cases_lt LARGEST (size defs t))
 
   directly_small : (t u : IrType) → Has (directly_in defs t) u → IsSmall t → IsSmall u
   directly_small t u h small = λ big. small (big.0, leads big.0 big.1, big.2)

@@ -1,5 +1,6 @@
 -- In the runs of a formed program each register that has a value has one of its type, and offsets are numbers of 32 bits.
 use Rattle.std.proofs.Common.{◌≡◌, inl, inr, ⊎_elim, ℕ, zero, suc, ◌+◌, ◌%◌, ◌<◌, Bool, true, false, ◌&&◌, nat_eq, if◌then◌else◌, List, [], ◌∷◌, ◌++◌, length, take, Option, Some, None, slice_get, All, Contains, refl, sym, ap, subst, arith}
+use Rattle.std.specs.List.{AllByRecursion as Each}
 use Rattle.std.specs.Fn.{iterate}
 use Rattle.std.proofs.lemmas.Bool.Decides.{nat_tests}
 use Rattle.std.proofs.lemmas.Option.{slice_get_cases}
@@ -25,11 +26,12 @@ use Rattle.ir_core.specs.Memory.{Value, Bits, At, NullPointer, Poisoned, Memory,
 use Rattle.ir_core.specs.Rows.{Answer, Gives, NoGood, Mistyped, Read, Is, IsPoison, IsOther, as_word, bin, icmp, choose, cast_read, moved, is_pointer, is_of}
 use Rattle.ir_core.specs.Flat.{Program, Activation, Run, Regs, with_reg, Effect, Sets, Allocates, Stores, Puts, Takes, Enters, Goes, Returns, Stops, NoMeaning, NoValue, value_of, using, operand, word_in, answered, load_gives, store_gives, if_typed, Distance, Far, PoisonFar, NoDistance, distance, gep_gives, arguments, effect, end_effect, with_result, without, got, at_most_one, entered, entry_for, entry_value, with_phi, after_phis, block_of, stands_at, goes_into, ended, back, returned, applied, what_stands, in_block, turn_of, flat_step, flat_start}
 use Rattle.ir_core.specs.Formed.{FuncType, HasType, Receives, AllTyped, ReturnsType, IsTyped, IsEndTyped, IsFormed}
-use Rattle.ir_core.proofs.Lists.{Has, contains, Each}
+use Rattle.ir_core.proofs.Lists.{Has, contains}
 use Rattle.ir_safety.specs.TypedRuns.{HasOffset, IsValueOf, HoldsTypes, HoldsOffsets, activations}
 use Rattle.ir_safety.proofs.Typed.{IsOf, Answers, Loads, tested, word_read, bin_of, icmp_of, poison_of, cast_of, load_of}
 use Rattle.ir_safety.proofs.Offsets.{GivesOffset, load_offset, KeepsOffsets, store_keeps, fresh_holds, kill_keeps, kill_all_keeps}
 use Rattle.ir_safety.proofs.Elements.{same_some}
+use Rattle.ir_safety.proofs.GlobalPointers.{offsets_held}
 
 -- ---- values
 
@@ -411,9 +413,9 @@ module _ (p : Program) (types : ℕ → ℕ → Scalar) (funcs : ℕ → FuncTyp
   all_below f waiting [] h = tt
   all_below f waiting (a ∷ as') h = (h.1, all_below a.func a.waiting as' h.2)
 
-  module _ (globals : HoldsOffsets p.globals) (input : List ℕ) (small : All (λ b. b < 256) input) (n : ℕ) where
+  module _ (input : List ℕ) (small : All (λ b. b < 256) input) (n : ℕ) where
     all_hold : HoldsAll (iterate (flat_step p) n (flat_start p input))
-    all_hold = turns_hold n (flat_start p input) (record { top = λ q v e. absurd (none v e); below = tt; memory = globals; input = small })
+    all_hold = turns_hold n (flat_start p input) (record { top = λ q v e. absurd (none v e); below = tt; memory = offsets_held p.globals formed.pointers; input = small })
       where
         none : (v : Value) → None ≡ Some v → ⊥
         none v z = cc

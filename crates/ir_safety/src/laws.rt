@@ -40,10 +40,10 @@ pub fn a_plain_body_is_formed()
 
 /// In each run of a formed program, after any number of turns, each register of each activation that has a value has one of
 /// its type: a word below its width's power, or a pointer with an offset of 32 bits; and the pointers in memory have
-/// such offsets, where those of the globals have. It does nothing: its contract is the law.
+/// such offsets. It does nothing: its contract is the law.
 pub fn registers_hold_values_of_their_types()
-    ensures registers { (p : Program) (types : ℕ → ℕ → Scalar) (funcs : ℕ → FuncType) → IsFormed p types funcs → HoldsOffsets p.globals → (input : List ℕ) → All (λ b. b < 256) input → (n : ℕ) → All (HoldsTypes types) (activations (iterate (flat_step p) n (flat_start p input))) }
-    ensures memory { (p : Program) (types : ℕ → ℕ → Scalar) (funcs : ℕ → FuncType) → IsFormed p types funcs → HoldsOffsets p.globals → (input : List ℕ) → All (λ b. b < 256) input → (n : ℕ) → HoldsOffsets (iterate (flat_step p) n (flat_start p input)).memory }
+    ensures registers { (p : Program) (types : ℕ → ℕ → Scalar) (funcs : ℕ → FuncType) → IsFormed p types funcs → (input : List ℕ) → All (λ b. b < 256) input → (n : ℕ) → All (HoldsTypes types) (activations (iterate (flat_step p) n (flat_start p input))) }
+    ensures memory { (p : Program) (types : ℕ → ℕ → Scalar) (funcs : ℕ → FuncType) → IsFormed p types funcs → (input : List ℕ) → All (λ b. b < 256) input → (n : ℕ) → HoldsOffsets (iterate (flat_step p) n (flat_start p input)).memory }
 {}
 
 /// Of a function of a proper module: its registers but the parameters, of which there are 8 at most, and its blocks are no

@@ -11,7 +11,6 @@ use Rattle.ir_core.specs.Flat.{Program, flat_run}
 use Rattle.ir_core.specs.Formed.{FuncType, IsFormed}
 use Rattle.ir_safety.proofs.FormedSafe.{formed_safe}
 use Rattle.ir_safety.proofs.NeverStuck.{never_stuck}
-use Rattle.ir_simulation.specs.Globals.{HasGlobalParts}
 use Rattle.ir_simulation.specs.KeepsMeaning.{FollowsOnBytes, KeepsMeaning}
 use Rattle.ir_simulation.specs.Replaced.{with_body, with_all}
 
@@ -28,9 +27,9 @@ pub there : (p : Program) (f : ℕ) (x : FlatBody) → (with_body p f x).body f 
 there p f x = let e : nat_eq f f ≡ true = grind (arith, nat_tests) in ap (λ (t : Bool). if t then Some x else p.body f) e
 
 pub keeps_then : (a b : FlatBody → FlatBody) → KeepsMeaning a → KeepsMeaning b → KeepsMeaning (λ x. b (a x))
-keeps_then a b ka kb p types funcs h globals f old is_old =
-    let one = ka p types funcs h globals f old is_old in
-    let two = kb (with_body p f (a old)) types funcs one.0 globals f (a old) (there p f (a old)) in
+keeps_then a b ka kb p types funcs h f old is_old =
+    let one = ka p types funcs h f old is_old in
+    let two = kb (with_body p f (a old)) types funcs one.0 f (a old) (there p f (a old)) in
     let same = twice p f (a old) (b (a old)) in (
       subst (λ (q : Program). IsFormed q types funcs) same two.0,
       λ input small. follows_trans (flat_run p input) (flat_run (with_body p f (a old)) input) (flat_run (with_body p f (b (a old))) input) (one.1 input small) (subst (λ (q : Program). Follows (flat_run (with_body p f (a old)) input) (flat_run q input)) same (two.1 input small)),
@@ -62,7 +61,7 @@ follows_itself p input never = record {
 abbrev with_first : Program → (FlatBody → FlatBody) → ℕ → Program
 with_first p pass n = record p { body = λ g. if nat_lt g n then option_map pass (p.body g) else p.body g }
 
-module _ (pass : FlatBody → FlatBody) (keeps : KeepsMeaning pass) (p : Program) (types : ℕ → ℕ → Scalar) (funcs : ℕ → FuncType) (h : IsFormed p types funcs) (globals : HasGlobalParts p.globals) where
+module _ (pass : FlatBody → FlatBody) (keeps : KeepsMeaning pass) (p : Program) (types : ℕ → ℕ → Scalar) (funcs : ℕ → FuncType) (h : IsFormed p types funcs) where
   abbrev IsKept : Program → Type 0
   IsKept q = IsFormed q types funcs × FollowsOnBytes p q
 
@@ -94,7 +93,7 @@ module _ (pass : FlatBody → FlatBody) (keeps : KeepsMeaning pass) (p : Program
   step : (n : ℕ) (o : Option FlatBody) → p.body n ≡ o → IsKept (with_first p pass n) → IsKept (with_first p pass (suc n))
   step n None e k = subst IsKept (none_more n e) k
   step n (Some old) e k =
-      let more = keeps (with_first p pass n) types funcs k.0 globals n old (next_body n ∙ e) in
+      let more = keeps (with_first p pass n) types funcs k.0 n old (next_body n ∙ e) in
       let same = one_more n (pass old) (ap (option_map pass) e) in
       subst IsKept same (
         more.0,

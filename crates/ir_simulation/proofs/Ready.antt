@@ -1,5 +1,6 @@
 -- In each state that a formed program's run comes to, the operands of what comes next have values.
 use Rattle.std.proofs.Common.{◌≡◌, inl, inr, ⊎_elim, ℕ, ◌<◌, ◌≤◌, List, length, Option, Some, None, slice_get, All, refl, sym, ap, ◌∙◌, subst, arith}
+use Rattle.std.specs.List.{AllByRecursion as Each}
 use Rattle.std.proofs.lemmas.Option.{slice_get_cases}
 use Rattle.std.proofs.lemmas.List.Elements.{All-contains}
 use Rattle.oi_base.specs.Follows.{Going}
@@ -11,7 +12,7 @@ use Rattle.ir_core.specs.declared.flat.FlatBlock.{FlatBlock}
 use Rattle.ir_core.specs.Memory.{Value}
 use Rattle.ir_core.specs.Flat.{Program, Run, Regs, value_of, block_of}
 use Rattle.ir_core.specs.Formed.{FuncType, IsWritten, ComesFirst, IsFormed, used_by, used_at_end}
-use Rattle.ir_core.proofs.Lists.{Has, Each, contains, each_from}
+use Rattle.ir_core.proofs.Lists.{Has, contains, each_from}
 use Rattle.ir_safety.proofs.Safe.{NotFalse}
 use Rattle.ir_safety.proofs.Standing.{Runs}
 use Rattle.ir_safety.proofs.FormedSafe.{formed_safe}

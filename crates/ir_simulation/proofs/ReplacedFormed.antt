@@ -58,4 +58,5 @@ module _ (p : Program) (types : ℕ → ℕ → Scalar) (funcs : ℕ → FuncTyp
         g body is_body (record { block = b; place = n; code = k; result = d; args = args; is_block = is_block; is_call = is_call }) in
         still_there c.0 x.0 x.1;
     addresses = by_body (λ g body. All (NamesGlobal (length p.globals)) (all_uses body)) addresses h.addresses;
+    pointers = h.pointers;
   }

@@ -5,7 +5,6 @@ use Rattle.ir_core.specs.declared.flat.Scalar.{Scalar}
 use Rattle.ir_core.specs.declared.flat.FlatBody.{FlatBody}
 use Rattle.ir_core.specs.Flat.{Program, flat_run}
 use Rattle.ir_core.specs.Formed.{FuncType, IsFormed}
-use Rattle.ir_simulation.specs.Globals.{HasGlobalParts}
 use Rattle.ir_simulation.specs.Replaced.{with_body}
 
 -- on every input of bytes the run of the second program follows that of the first
@@ -14,5 +13,5 @@ FollowsOnBytes p q = (input : List ℕ) → All (λ b. b < 256) input → Follow
 
 -- of every formed program that holds a body, the program with the passed body in its place is formed, and follows it
 abbrev pub KeepsMeaning : (FlatBody → FlatBody) → Type 0
-KeepsMeaning pass = (p : Program) (types : ℕ → ℕ → Scalar) (funcs : ℕ → FuncType) → IsFormed p types funcs → HasGlobalParts p.globals → (f : ℕ) (old : FlatBody) → p.body f ≡ Some old
+KeepsMeaning pass = (p : Program) (types : ℕ → ℕ → Scalar) (funcs : ℕ → FuncType) → IsFormed p types funcs → (f : ℕ) (old : FlatBody) → p.body f ≡ Some old
     → IsFormed (with_body p f (pass old)) types funcs × FollowsOnBytes p (with_body p f (pass old))

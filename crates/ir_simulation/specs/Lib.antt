@@ -1,4 +1,3 @@
-pub mod Globals
 pub mod KeepsMeaning
 pub mod Renamed
 pub mod Replaced

@@ -4,7 +4,6 @@ ghost use Rattle.ir_core.specs.declared.flat.Scalar.{Scalar};
 ghost use Rattle.ir_core.specs.declared.flat.FlatBody as bodies;
 ghost use Rattle.ir_core.specs.Flat.{Program};
 ghost use Rattle.ir_core.specs.Formed.{FuncType, IsFormed};
-ghost use Rattle.ir_simulation.specs.Globals.{HasGlobalParts};
 ghost use Rattle.ir_simulation.specs.KeepsMeaning.{FollowsOnBytes, KeepsMeaning};
 ghost use Rattle.ir_simulation.specs.Replaced.{with_all};
 
@@ -21,5 +20,5 @@ pub fn a_pass_may_be_repeated()
 /// Where a pass keeps the meaning, of every formed program of n functions the program with all bodies passed at once is formed,
 /// and follows it. It does nothing: its contract is the law.
 pub fn all_bodies_may_be_passed()
-    ensures { (pass : bodies.FlatBody → bodies.FlatBody) → KeepsMeaning pass → (p : Program) (types : ℕ → ℕ → Scalar) (funcs : ℕ → FuncType) → IsFormed p types funcs → HasGlobalParts p.globals → (n : ℕ) → ((g : ℕ) → n ≤ g → p.body g ≡ None) → IsFormed (with_all p pass) types funcs × FollowsOnBytes p (with_all p pass) }
+    ensures { (pass : bodies.FlatBody → bodies.FlatBody) → KeepsMeaning pass → (p : Program) (types : ℕ → ℕ → Scalar) (funcs : ℕ → FuncType) → IsFormed p types funcs → (n : ℕ) → ((g : ℕ) → n ≤ g → p.body g ≡ None) → IsFormed (with_all p pass) types funcs × FollowsOnBytes p (with_all p pass) }
 {}

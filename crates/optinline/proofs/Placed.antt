@@ -178,7 +178,7 @@ module _ (b : Body) (defined : IsDefined b) where
       blocks = λ g y e. absurd (nothing e);
       inside = λ g y e. absurd (nothing e);
       apart = λ g h y z e. absurd (nothing e);
-      made = λ i k y c e. absurd (nothing e);
+      pointers = λ i y e. absurd (nothing e);
     };
   }
     where

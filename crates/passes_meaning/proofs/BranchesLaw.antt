@@ -15,7 +15,7 @@ use Rattle.passes_meaning.proofs.BranchesFollow.{branches_follow}
 
 pub branches_keep_meaning : KeepsMeaning branches_folded
 unfolding branches_folded
-branches_keep_meaning p types funcs h globals f old is_old =
+branches_keep_meaning p types funcs h f old is_old =
     let body = h.bodies f old is_old in
     let new = branches_folded old in (
       replaced_formed p types funcs h f old (branches_folded old) is_old (branches_formed (types f) funcs (funcs f) old body)

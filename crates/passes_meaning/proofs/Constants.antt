@@ -1,6 +1,6 @@
 -- A program follows itself once what is known to be constant stands in its place in one function.
 use Rattle.std.proofs.Common.{◌≡◌, ◌≢◌, ◌⊎◌, inl, inr, ⊎_elim, ℕ, zero, suc, ◌+◌, ◌<◌, ◌≤◌, ◌%◌, Bool, true, false, ◌&&◌, is_some, is_none, nat_eq, nat_lt, if◌then◌else◌, List, [], ◌∷◌, map, Option, Some, None, slice_get, refl, sym, ap, ap₂, ◌∙◌, subst, arith}
-use Rattle.std.specs.List.{fold, filter, list_all}
+use Rattle.std.specs.List.{fold, filter, list_all, AllByRecursion as Each}
 use Rattle.std.specs.Option.{option_map, option_and_then, unwrap_or}
 use Rattle.std.proofs.lemmas.Bool.Decides.{nat_tests}
 use Rattle.std.proofs.lemmas.Bool.{cases_lt}
@@ -27,7 +27,7 @@ use Rattle.ir_core.specs.Memory.{Value, Bits, At, Memory}
 use Rattle.ir_core.specs.Rows.{Answer, Gives, NoGood, Mistyped, Is, IsOther, as_word, outcome, bin, bin_read, icmp, test_read, choose, cast_read, moved}
 use Rattle.ir_core.specs.Flat.{Program, Run, Regs, Effect, Sets, Allocates, Stores, Puts, Takes, Enters, Goes, Returns, Stops, NoMeaning, NoValue, with_reg, value_of, using, operand, answered, Distance, Far, PoisonFar, NoDistance, distance, gep_gives, entry_for, entry_value, with_phi, after_phis, effect, end_effect, flat_run}
 use Rattle.ir_core.specs.Formed.{written_by, used_by, used_at_end}
-use Rattle.ir_core.proofs.Lists.{Has, Each}
+use Rattle.ir_core.proofs.Lists.{Has}
 use Rattle.ir_safety.specs.TypedRuns.{HasOffset}
 use Rattle.const_fold.specs.Operands.{with_operand, with_operands, word_of_op, word_in, constant, same_op}
 use Rattle.ir_simulation.specs.Replaced.{with_body}

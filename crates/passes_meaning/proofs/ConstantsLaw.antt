@@ -1,6 +1,6 @@
 -- With the constants of one function folded a formed program is formed, and follows.
 use Rattle.std.proofs.Common.{◌≡◌, ◌≢◌, ℕ, ◌<◌, ◌≤◌, Bool, true, false, nat_eq, if◌then◌else◌, List, [], ◌∷◌, map, length, Option, Some, None, slice_get, All, sym, ap, ◌∙◌, subst, arith}
-use Rattle.std.specs.List.{fold, filter}
+use Rattle.std.specs.List.{fold, filter, AllByRecursion as Each}
 use Rattle.std.proofs.lemmas.List.Elements.{All-contains, All-head, recursion_from_All}
 use Rattle.oi_base.specs.declared.ids.RegId.{RegId}
 use Rattle.oi_base.specs.declared.ids.FuncId.{FuncId}
@@ -17,11 +17,11 @@ use Rattle.ir_core.specs.declared.flat.FlatEnd.{FlatEnd}
 use Rattle.ir_core.specs.declared.flat.FlatEnd.TheVariants.{Ret, Br, Cond, Switch, Unreachable}
 use Rattle.ir_core.specs.declared.flat.FlatBlock.{FlatBlock}
 use Rattle.ir_core.specs.declared.flat.FlatBody.{FlatBody}
-use Rattle.ir_core.specs.Memory.{Value, Bits, At, NullPointer, Poisoned, Byte, Unset, PoisonByte, Octet, PartOf, Memory}
+use Rattle.ir_core.specs.Memory.{Value, Bits, At, NullPointer, Poisoned}
 use Rattle.ir_core.specs.Flat.{Program, Run, Regs, value_of, block_of, flat_run}
 use Rattle.ir_core.specs.Formed.{FuncType, HasType, AllTyped, IsTyped, ReturnsType, IsEndTyped, IsFormed, NamesGlobal, used_by, used_at_end, all_uses, all_writes}
-use Rattle.ir_core.proofs.Lists.{Has, Each, Apart, each_from, contains}
-use Rattle.ir_safety.specs.TypedRuns.{HasOffset, HasPartOffset, HoldsOffsets, HoldsTypes}
+use Rattle.ir_core.proofs.Lists.{Has, Apart, each_from, contains}
+use Rattle.ir_safety.specs.TypedRuns.{HasOffset, HoldsTypes}
 use Rattle.ir_safety.proofs.Elements.{same_some}
 use Rattle.ir_safety.proofs.FormedSafe.{formed_safe}
 use Rattle.ir_safety.proofs.NeverStuck.{never_stuck}
@@ -32,7 +32,6 @@ use Rattle.const_fold.proofs.ConstantsFormed.{with_facts_formed, all_uses_from}
 use Rattle.const_fold.proofs.FactTypes.{facts_fit}
 use Rattle.const_fold.proofs.Shapes.{made_at}
 use Rattle.flow_fold.proofs.DroppedFormed.{apart_pairs}
-use Rattle.ir_simulation.specs.Globals.{IsGlobalPart, HasGlobalParts}
 use Rattle.ir_simulation.specs.KeepsMeaning.{KeepsMeaning}
 use Rattle.ir_simulation.specs.Replaced.{with_body}
 use Rattle.ir_simulation.proofs.Reached.{Reached}
@@ -86,15 +85,6 @@ end_uses types result Unreachable h = tt
 
 -- ---- pointers have offsets of 32 bits
 
-part_offset : (n : ℕ) (c : Byte) → IsGlobalPart n c → HasPartOffset c
-part_offset n (PartOf b o k) h = h.1
-part_offset n Unset h = tt
-part_offset n PoisonByte h = tt
-part_offset n (Octet a) h = tt
-
-pub offsets_held : (m : Memory) → HasGlobalParts m → HoldsOffsets m
-offsets_held m h i b e k c g = part_offset (length m) c (h i b e k c g)
-
 value_offset : (types : ℕ → Scalar) (regs : Regs) → ((q : ℕ) (v : Value) → regs q ≡ Some v → HasOffset v) → (o : FlatOp) (s : Scalar) (v : Value) → HasType types o s → value_of regs o ≡ Some v → HasOffset v
 value_offset types regs h (Reg r) s v t e = h r.0 v e
 value_offset types regs h (Word a) s v t e = subst HasOffset (same_some (Bits a) v e) tt
@@ -140,7 +130,7 @@ old_call old g call =
 
 -- ---- the whole
 
-module _ (p : Program) (types : ℕ → ℕ → Scalar) (funcs : ℕ → FuncType) (formed : IsFormed p types funcs) (globals : HasGlobalParts p.globals) (f : ℕ) (old : FlatBody) (is_old : p.body f ≡ Some old) where
+module _ (p : Program) (types : ℕ → ℕ → Scalar) (funcs : ℕ → FuncType) (formed : IsFormed p types funcs) (f : ℕ) (old : FlatBody) (is_old : p.body f ≡ Some old) where
   once : Apart (all_writes old)
   once = apart_pairs (all_writes old) (formed.bodies f old is_old).written_once
 
@@ -152,7 +142,7 @@ module _ (p : Program) (types : ℕ → ℕ → Scalar) (funcs : ℕ → FuncTyp
   module _ (input : List ℕ) (small : All (λ b. b < 256) input) where
     top_offsets : (r : Run) → Reached p input r → (q : ℕ) (v : Value) → r.top.regs q ≡ Some v → HasOffset v
     top_offsets r h q v e =
-        let all = registers_hold p types funcs formed (offsets_held p.globals globals) input small h.0 in
+        let all = registers_hold p types funcs formed input small h.0 in
         let top = All-head (HoldsTypes types) _ _ all in
         (top q v (subst (λ (x : Run). x.top.regs q ≡ Some v) h.1 e)).1
 
@@ -185,10 +175,10 @@ module _ (p : Program) (types : ℕ → ℕ → Scalar) (funcs : ℕ → FuncTyp
 
 pub constants_keep_meaning : KeepsMeaning constants_folded
 unfolding constants_folded
-constants_keep_meaning p types funcs h globals f old is_old =
+constants_keep_meaning p types funcs h f old is_old =
     let body = h.bodies f old is_old in
     let new = body_with (all_facts old) old in (
       replaced_formed p types funcs h f old new is_old (with_facts_formed (types f) funcs (funcs f) old (all_facts old) (facts_fit (types f) funcs (funcs f) old body) body) (old_call old)
-          (each_all (NamesGlobal (length p.globals)) (all_uses new) (new_names p types funcs h globals f old is_old)),
-      folded_follows p types funcs h globals f old is_old,
+          (each_all (NamesGlobal (length p.globals)) (all_uses new) (new_names p types funcs h f old is_old)),
+      folded_follows p types funcs h f old is_old,
     )

@@ -22,7 +22,7 @@ use Rattle.local_passes.specs.DropDead.{values}
 use Rattle.local_passes.proofs.CopiesFormed.{copied_formed}
 use Rattle.local_passes.proofs.Needing.{of_phi, of_instr, of_end}
 use Rattle.local_passes.proofs.Numbered.{numbered_source}
-use Rattle.local_passes.proofs.WithOperands.{instr_uses, end_uses}
+use Rattle.const_fold.proofs.WithOperands.{instr_uses, end_uses}
 use Rattle.ir_simulation.specs.KeepsMeaning.{KeepsMeaning}
 use Rattle.ir_simulation.proofs.ReplacedFormed.{IsCalled, each_all, replaced_formed}
 use Rattle.passes_meaning.proofs.Operands.{call_before}
@@ -82,7 +82,7 @@ module _ (old : FlatBody) where
 
 pub copies_keep_meaning : KeepsMeaning copies_replaced
 unfolding copies_replaced
-copies_keep_meaning p types funcs h globals f old is_old = (
+copies_keep_meaning p types funcs h f old is_old = (
   replaced_formed p types funcs h f old (new old) is_old (copied_formed (types f) funcs (funcs f) old (h.bodies f old is_old)) (old_call old)
       (each_all (NamesGlobal (length p.globals)) (all_uses (new old)) (in_body old (length p.globals) (λ o has. All-contains (NamesGlobal (length p.globals)) (all_uses old) o (h.addresses f old is_old) (contains (all_uses old) o has)))),
   λ input small. copies_follow p f old is_old input (never_stuck p types funcs (formed_safe p types funcs h) input small),

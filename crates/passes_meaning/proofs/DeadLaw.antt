@@ -68,6 +68,6 @@ dead_replaced p types funcs h f old is_old =
 
 pub dead_keep_meaning : KeepsMeaning dead_dropped
 unfolding dead_dropped
-dead_keep_meaning p types funcs h globals f old is_old =
+dead_keep_meaning p types funcs h f old is_old =
     let new_formed = dead_replaced p types funcs h f old is_old in
-    (new_formed, λ input small. dead_follow p types funcs h f old is_old (global_twins p.globals globals) new_formed input small)
+    (new_formed, λ input small. dead_follow p types funcs h f old is_old (global_twins p.globals h.pointers) new_formed input small)

@@ -1,6 +1,6 @@
 -- Where no register is written twice, each fact that the sweep leaves follows from the facts that it leaves.
 use Rattle.std.proofs.Common.{◌≡◌, ◌≢◌, inl, inr, ℕ, Bool, true, false, ◌&&◌, nat_eq, is_some, if◌then◌else◌, List, [], ◌∷◌, ◌++◌, map, Option, Some, None, slice_get, refl, sym, ap, ap₂, ◌∙◌, subst, arith}
-use Rattle.std.specs.List.{fold, filter_map, cons_option, flat_map, list_all}
+use Rattle.std.specs.List.{fold, filter_map, cons_option, flat_map, list_all, AllByRecursion as Each}
 use Rattle.std.specs.Option.{option_map, option_and_then, unwrap_or}
 use Rattle.std.proofs.lemmas.Bool.Decides.{nat_tests}
 use Rattle.oi_base.specs.declared.words.Width.{Width}
@@ -16,7 +16,7 @@ use Rattle.ir_core.specs.declared.flat.FlatInstr.TheVariants.{Bin, Icmp, Select,
 use Rattle.ir_core.specs.declared.flat.FlatBlock.{FlatBlock}
 use Rattle.ir_core.specs.declared.flat.FlatBody.{FlatBody}
 use Rattle.ir_core.specs.Formed.{written_by, writes, all_writes}
-use Rattle.ir_core.proofs.Lists.{Has, Each, Apart, has_at, has_part, has_left, has_right, has_mapped}
+use Rattle.ir_core.proofs.Lists.{Has, Apart, has_at, has_part, has_left, has_right, has_mapped}
 use Rattle.const_fold.specs.Operands.{word_in, constant, same_op}
 use Rattle.const_fold.specs.FoldConstants.{Facts, no_facts, with_fact, noted, known, on_words, chosen, choice_fact, converts, converted, with_term, summed, address_fact, instr_fact, entries_fact, phi_noted, block_noted, all_facts}
 

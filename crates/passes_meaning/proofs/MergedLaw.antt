@@ -1,6 +1,5 @@
 -- With the blocks of one function merged a formed program is formed, and follows.
 use Rattle.std.proofs.Common.{◌≡◌, ◌≢◌, ℕ, zero, suc, ◌<◌, Bool, true, false, not, ◌&&◌, nat_eq, if◌then◌else◌, List, ◌∷◌, length, Option, Some, None, slice_get, All, refl, sym, ap, ◌∙◌, subst, arith}
-use Rattle.std.specs.Fn.{iterate}
 use Rattle.std.proofs.lemmas.Bool.Decides.{nat_tests}
 use Rattle.std.proofs.lemmas.Option.{slice_get_within}
 use Rattle.std.proofs.lemmas.List.Elements.{All-contains}
@@ -21,10 +20,11 @@ use Rattle.ir_safety.proofs.Standing.{Runs}
 use Rattle.ir_safety.proofs.FormedSafe.{formed_safe}
 use Rattle.ir_safety.proofs.NeverStuck.{never_stuck, runs_on}
 use Rattle.flow_fold.specs.Blocks.{only_blocks}
-use Rattle.flow_fold.specs.MergeBlocks.{Merging, comes_only, plain_target, one_name, merged, merged_where, merged_to, merged_once_at, merged_once, merged_through, unmerged, all_merged, blocks_merged}
+use Rattle.flow_fold.specs.MergeBlocks.{Merging, comes_only, plain_target, one_name, merged, unmerged, all_merged, blocks_merged}
 use Rattle.flow_fold.proofs.BranchesFormed.{goes_has, has_goes}
 use Rattle.flow_fold.proofs.DroppedFormed.{source, old_use}
 use Rattle.flow_fold.proofs.MergeFormed.{merge_formed, edges_now}
+use Rattle.flow_fold.proofs.MergeTurns.{blocks_hold}
 use Rattle.flow_fold.proofs.MergedFormed.{only_from, all_merged_formed}
 use Rattle.flow_fold.proofs.OneMerge.{plain_targets}
 use Rattle.flow_fold.proofs.Reaching.{IsClosed}
@@ -98,44 +98,6 @@ module _ (p : Program) (types : ℕ → ℕ → Scalar) (funcs : ℕ → FuncTyp
           (merge_follows q f old n m k l (may_merge (types f) funcs (funcs f) q f old h.formed_body n m k l at_n at_m plain inner apart only) (there p f old) input
           (never_stuck q types funcs (formed_safe q types funcs (program_formed s h)) input small) (on_path q types funcs (program_formed s h) f old (there p f old) input small))
 
-  tested_holds : (s : Merging) → Holds s → (n m : ℕ) (k l : FlatBlock) → slice_get s.blocks n ≡ Some k → slice_get s.blocks m ≡ Some l → plain_target k.end ≡ Some m → (not (nat_eq m 0) && not (nat_eq m n) && comes_only n m 0 s.blocks) ≡ true → Holds (merged s n m k l)
-  tested_holds s h n m k l at_n at_m plain test = by_tests (nat_eq m 0) (nat_eq m n) (comes_only n m 0 s.blocks) refl refl refl test
-    where
-      by_tests : (x y z : Bool) → nat_eq m 0 ≡ x → nat_eq m n ≡ y → comes_only n m 0 s.blocks ≡ z → (not x && not y && z) ≡ true → Holds (merged s n m k l)
-      by_tests false false true ex ey ez t =
-          let inner : m ≢ 0 = λ same. absurd (grind (arith, nat_tests)) in
-          let apart : m ≢ n = λ same. absurd (grind (arith, nat_tests)) in
-          merge_holds s h n m k l at_n at_m plain inner apart ez
-      by_tests false false false ex ey ez t = absurd cc
-      by_tests false true z ex ey ez t = absurd cc
-      by_tests true y z ex ey ez t = absurd cc
-
-  once_holds : (n : ℕ) (s : Merging) → Holds s → Holds (merged_once n s)
-  once_holds n s h = by_block (slice_get s.blocks n) refl
-    where
-      by_target : (k : FlatBlock) → slice_get s.blocks n ≡ Some k → (o : Option ℕ) → plain_target k.end ≡ o → Holds (merged_to s n k o)
-      by_target k at_n None plain = h
-      by_target k at_n (Some m) plain = by_test (not (nat_eq m 0) && not (nat_eq m n) && comes_only n m 0 s.blocks) refl (slice_get s.blocks m) refl
-        where
-          by_test : (t : Bool) → (not (nat_eq m 0) && not (nat_eq m n) && comes_only n m 0 s.blocks) ≡ t → (o : Option FlatBlock) → slice_get s.blocks m ≡ o → Holds (merged_where s n m k t o)
-          by_test false test o at_m = h
-          by_test true test None at_m = h
-          by_test true test (Some l) at_m = tested_holds s h n m k l at_n at_m plain test
-
-      by_block : (o : Option FlatBlock) → slice_get s.blocks n ≡ o → Holds (merged_once_at s n o)
-      by_block None at_n = h
-      by_block (Some k) at_n = by_target k at_n (plain_target k.end) refl
-
-  -- ---- all merges
-
-  turns_hold : (n turns : ℕ) (s : Merging) → Holds s → Holds (iterate (merged_once n) turns s)
-  turns_hold n zero s h = h
-  turns_hold n (suc turns) s h = turns_hold n turns (merged_once n s) (once_holds n s h)
-
-  blocks_hold : (n : ℕ) (s : Merging) → Holds s → Holds (merged_through n s)
-  blocks_hold zero s h = h
-  blocks_hold (suc n) s h = turns_hold n (length (merged_through n s).blocks) (merged_through n s) (blocks_hold n s h)
-
   same_program : with_body p f body ≡ p
   same_program = λ i. record p { body = λ g. at g (nat_eq g f) refl i }
     where
@@ -189,8 +151,8 @@ module _ (p : Program) (types : ℕ → ℕ → Scalar) (funcs : ℕ → FuncTyp
     )
 
   all_merged_kept : IsFormed (with_body p f (only_blocks (all_merged body).left (with_blocks (all_merged body).blocks))) types funcs × FollowsOnBytes p (with_body p f (only_blocks (all_merged body).left (with_blocks (all_merged body).blocks)))
-  all_merged_kept = left_kept (all_merged body) (blocks_hold (length body.blocks) (unmerged body) begin_holds) (all_merged_formed (types f) funcs (funcs f) body (formed.bodies f body is_body))
+  all_merged_kept = left_kept (all_merged body) (blocks_hold Holds merge_holds (length body.blocks) (unmerged body) begin_holds) (all_merged_formed (types f) funcs (funcs f) body (formed.bodies f body is_body))
 
 pub merging_keeps_meaning : KeepsMeaning blocks_merged
 unfolding blocks_merged
-merging_keeps_meaning p types funcs h globals f old is_old = all_merged_kept p types funcs h f old is_old
+merging_keeps_meaning p types funcs h f old is_old = all_merged_kept p types funcs h f old is_old

@@ -1,5 +1,6 @@
 -- A program follows itself once one block of one function is merged into its only predecessor.
 use Rattle.std.proofs.Common.{◌≡◌, ◌≢◌, ◌⊎◌, inl, inr, ⊎_elim, ℕ, zero, suc, ◌+◌, ◌<◌, ◌≤◌, Bool, true, false, ◌&&◌, nat_eq, nat_le, if◌then◌else◌, List, [], ◌∷◌, ◌++◌, map, length, Option, Some, None, slice_get, slice_set, refl, sym, ap, ap₂, ◌∙◌, subst, append_assoc, arith}
+use Rattle.std.specs.List.{AllByRecursion as Each}
 use Rattle.std.proofs.lemmas.Bool.Decides.{nat_tests}
 use Rattle.std.proofs.lemmas.Option.{none-some, same_Some, slice_get_within, slice_get_cases}
 use Rattle.oi_base.specs.declared.ids.RegId.{RegId}
@@ -17,7 +18,7 @@ use Rattle.ir_core.specs.declared.flat.FlatBody.{FlatBody}
 use Rattle.ir_core.specs.Memory.{Value}
 use Rattle.ir_core.specs.Flat.{Program, Run, Regs, Effect, Sets, Allocates, Stores, Puts, Takes, Enters, Goes, Returns, Stops, NoMeaning, NoValue, with_reg, value_of, entry_for, entry_value, with_phi, after_phis, what_stands, effect, end_effect, flat_run}
 use Rattle.ir_core.specs.Formed.{written_by, IsPath}
-use Rattle.ir_core.proofs.Lists.{Has, Each}
+use Rattle.ir_core.proofs.Lists.{Has}
 use Rattle.flow_fold.specs.Targets.{goes_to}
 use Rattle.ir_simulation.specs.Replaced.{with_body}
 use Rattle.flow_fold.specs.Blocks.{entry_renamed, phi_renamed}

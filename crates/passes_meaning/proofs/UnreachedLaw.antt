@@ -18,7 +18,7 @@ use Rattle.passes_meaning.proofs.UnreachedFollow.{unreached_follow}
 
 pub unreached_keeps_meaning : KeepsMeaning unreached_dropped
 unfolding unreached_dropped
-unreached_keeps_meaning p types funcs h globals f old is_old =
+unreached_keeps_meaning p types funcs h f old is_old =
     let body = h.bodies f old is_old in
     let keep = is_reached old in
     let closed = reached_closed old in

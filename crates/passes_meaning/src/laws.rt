@@ -9,7 +9,6 @@ ghost use Rattle.local_passes.specs.DropDead.{dead_dropped};
 ghost use Rattle.flow_fold.specs.MergeBlocks.{blocks_merged};
 ghost use Rattle.local_passes.specs.LocalCopies.{copies_replaced};
 ghost use Rattle.local_passes.specs.Simplify.{simplified};
-ghost use Rattle.ir_simulation.specs.Globals.{HasGlobalParts};
 ghost use Rattle.ir_simulation.specs.KeepsMeaning.{FollowsOnBytes, KeepsMeaning};
 ghost use Rattle.ir_simulation.specs.Replaced.{with_all};
 
@@ -53,5 +52,5 @@ pub fn simplifying_keeps_meaning()
 /// Of every formed program of n functions, the program with all its bodies simplified at once is formed, and follows it. It does
 /// nothing: its contract is the law.
 pub fn simplifying_all_bodies_keeps_meaning()
-    ensures { (p : Program) (types : ℕ → ℕ → Scalar) (funcs : ℕ → FuncType) → IsFormed p types funcs → HasGlobalParts p.globals → (n : ℕ) → ((g : ℕ) → n ≤ g → p.body g ≡ None) → IsFormed (with_all p simplified) types funcs × FollowsOnBytes p (with_all p simplified) }
+    ensures { (p : Program) (types : ℕ → ℕ → Scalar) (funcs : ℕ → FuncType) → IsFormed p types funcs → (n : ℕ) → ((g : ℕ) → n ≤ g → p.body g ≡ None) → IsFormed (with_all p simplified) types funcs × FollowsOnBytes p (with_all p simplified) }
 {}

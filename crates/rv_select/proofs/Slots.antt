@@ -141,5 +141,5 @@ module _ (o : Object) (p : Program) (laid : IsLaid o p) where
           sizes = st.sizes;
           more = st.more;
           regs_made = (λ q u e. ⊎_elim (λ y. subst (IsMade (length r.memory)) (sym y.1) made) (λ y. st.regs_made.0 q u y.1) (with_reg_cases r.top.regs d.0 v u q e), st.regs_made.1);
-          bytes_made = st.bytes_made;
+          pointers = st.pointers;
         }

@@ -169,7 +169,7 @@ module _ (o : Object) (p : Program) (laid : IsLaid o p) (input : List ℕ) (inpu
         sizes = λ g b c e f. ap (λ (x : Block). length x.bytes) (one_block _ b c e f);
         more = omega arith;
         regs_made = (λ r v e. absurd (no_value e), tt);
-        bytes_made = laid.globals.made;
+        pointers = laid.globals.pointers;
       }
     where
       block_at : (i : ℕ) (b : Block) → slice_get p.globals i ≡ Some b → BlockStands p.globals o.link.global_at (bytes_at_load s) i b → BlockStands p.globals o.link.global_at m'.memory i b

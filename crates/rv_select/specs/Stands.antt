@@ -7,7 +7,7 @@ use Rattle.oi_base.specs.Follows.{Going}
 use Rattle.ir_core.specs.declared.flat.FlatInstr.TheVariants.{Alloca}
 use Rattle.ir_core.specs.declared.flat.FlatBlock.{FlatBlock}
 use Rattle.ir_core.specs.declared.flat.FlatBody.{FlatBody}
-use Rattle.ir_core.specs.Memory.{Value, Bits, At, NullPointer, Poisoned, Byte, Unset, PoisonByte, Octet, PartOf, Block, Memory}
+use Rattle.ir_core.specs.Memory.{Value, Bits, At, NullPointer, Poisoned, Byte, Unset, PoisonByte, Octet, PartOf, Block, Memory, PointsWithin}
 use Rattle.ir_core.specs.Rows.{is_live}
 use Rattle.ir_core.specs.Flat.{Program, Activation, Run}
 use Rattle.ir_core.specs.WellFormed.{IsWellFormed}
@@ -76,14 +76,10 @@ IsByteOf mem at PoisonByte c = Unit {0}
 IsByteOf mem at (Octet n) c = c ≡ n
 IsByteOf mem at (PartOf b o k) c = is_live (slice_get mem b) ≡ true → c ≡ (((at b + o) % 4294967296) / 256 ^ k) % 256
 
--- a value or a byte names only blocks that were made, with offsets of 32 bits
+-- a value names only blocks that were made, with offsets of 32 bits
 abbrev pub IsMade : ℕ → Value → Type 0
 IsMade n (At b o) = (b < n) × (o < 4294967296)
 IsMade n v = Unit {0}
-
-abbrev pub IsMadeByte : ℕ → Byte → Type 0
-IsMadeByte n (PartOf b o k) = (b < n) × (o < 4294967296)
-IsMadeByte n c = Unit {0}
 
 -- ---- frames on the stack
 
@@ -144,9 +140,6 @@ abbrev pub IsOwned : Program → (ℕ → ℕ) → ℕ → List Activation → �
 IsOwned p at s [] i size = ⊥
 IsOwned p at s (a ∷ as') i size = OwnsBlock at (body_in p a.func) s a i size ⊎ IsOwned p at (s + frame_in p a.func) as' i size
 
-abbrev pub BytesMade : Memory → Type 0
-BytesMade mem = (i k : ℕ) (b : Block) (c : Byte) → slice_get mem i ≡ Some b → slice_get b.bytes k ≡ Some c → IsMadeByte (length mem) c
-
 -- ---- the relation
 
 -- the state of the machine stands for the state of the run, where each block lies at its address
@@ -166,7 +159,7 @@ pub record StandsFor (o : Object) (p : Program) (at : ℕ → ℕ) (r : Run) (m 
   pub sizes : (g : ℕ) (b c : Block) → slice_get p.globals g ≡ Some b → slice_get r.memory g ≡ Some c → length c.bytes ≡ length b.bytes
   pub more : length p.globals ≤ length r.memory
   pub regs_made : RegsMade (length r.memory) (r.top ∷ r.below)
-  pub bytes_made : BytesMade r.memory
+  pub pointers : PointsWithin r.memory
 
 -- ---- what the layout owes
 
@@ -175,7 +168,7 @@ pub record DataIsLaid (o : Object) (globals : Memory) : Type 0 where
   pub blocks : (g : ℕ) (b : Block) → slice_get globals g ≡ Some b → BlockStands globals o.link.global_at (bytes_at_load o.segments) g b
   pub inside : (g : ℕ) (b : Block) → slice_get globals g ≡ Some b → (data_start ≤ o.link.global_at g) × (o.link.global_at g + length b.bytes ≤ data_start + length o.segments.data_bytes)
   pub apart : (g h : ℕ) (b c : Block) → slice_get globals g ≡ Some b → slice_get globals h ≡ Some c → g ≢ h → (o.link.global_at g + length b.bytes ≤ o.link.global_at h) ⊎ (o.link.global_at h + length c.bytes ≤ o.link.global_at g)
-  pub made : BytesMade globals
+  pub pointers : PointsWithin globals
 
 -- the code of a body stands at its function's entry
 pub record CodeIsLaid (o : Object) (f : ℕ) (b : FlatBody) : Type 0 where
