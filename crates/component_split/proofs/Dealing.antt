@@ -4,12 +4,13 @@ use Rattle.std.specs.Prelude.{slice_index, zip}
 use Rattle.std.specs.List.{filter, All}
 use Rattle.std.proofs.lemmas.Bool.{and_parts, and_from, eqb-true, ne_eqb, false≢true}
 use Rattle.std.proofs.lemmas.List.{map-append, get_or-map, length-map, take-map, take_more}
-use Rattle.std.proofs.lemmas.Slice.Zip.{get_or-zip, length-zip}
+use Rattle.std.proofs.lemmas.Slice.Zip.{get_or-zip, length-zip, firsts-zip}
 use Rattle.std.proofs.lemmas.List.Elements.{filter_more, All-filter}
 use Rattle.oi_base.specs.declared.ids.FuncId.{FuncId}
 use Rattle.oi_base.specs.declared.ids.SiteId.{SiteId}
 use Rattle.component_split.specs.declared.parts.Member.{Member}
 use Rattle.component_split.specs.Graph.{SiteGraph, Labels, has, inside}
+use Rattle.component_split.specs.Classes.{AreComponentsOf}
 use Rattle.component_split.specs.Split.{lowest, component, components, roots}
 use Rattle.component_split.specs.Members.{funcs_in, is_head, is_of, AreLows, HaveHeads, joined_by, IsComponentOf, put_at}
 use Rattle.component_split.specs.Over.{site_numbers, func_numbers, site_graph, IsRising, IsSetOf, IsCandidateNumber, AreSitesInside}
@@ -145,6 +146,10 @@ pub members_filter : (P : Member → Bool) (Q : ℕ → Bool) (ms : List Member)
 members_filter P Q [] h = refl
 members_filter P Q (m ∷ ms) h = members_at P Q m ms (P m) refl (sym (h 0 m (omega arith))) (members_filter P Q ms (λ i d l. h (suc i) d (omega (arith, l))))
 
+-- the lowest functions of a list are those of a list that is the same
+pub lows_of : (g : SiteGraph) (p : Labels) (xs fs ps : List ℕ) (ms : List Member) → xs ≡ fs → (AreComponentsOf g p xs ps → AreLows (lowest g p xs) ms) → AreComponentsOf g p fs ps → AreLows (lowest g p fs) ms
+lows_of g p xs fs ps ms same lows = subst (λ (zs : List ℕ). AreComponentsOf g p zs ps → AreLows (lowest g p zs) ms) same lows
+
 pub heads_are : (g : SiteGraph) (p : Labels) (fs : List ℕ) (ms : List Member) → funcs_in ms ≡ fs → AreLows (lowest g p fs) ms → funcs_in (filter is_head ms) ≡ roots g p fs
 heads_are g p fs ms e h = members_filter is_head (λ f. nat_eq (lowest g p fs f) f) ms (λ i d l. ap (λ x. nat_eq x (get_or ms i d).func.0) (h i d l)) ∙ ap (filter (λ f. nat_eq (lowest g p fs f) f)) e
 
@@ -193,6 +198,22 @@ zip_all P C D (r ∷ rs) h (suc i) d l = zip_all P C D rs h i d (omega (arith, l
 
 part_is_set : (G : Graph) (p : Labels) (fs : List ℕ) → All (λ f. f < length G.funcs) fs → (r : ℕ) → IsSetOf G (component (site_graph G) p fs r, filter (inside (site_graph G) (component (site_graph G) p fs r)) (site_graph G).sites)
 part_is_set G p fs h r = record { in_range = All-filter (λ f. nat_eq (lowest (site_graph G) p fs f) r) (λ f. f < length G.funcs) fs h; sites = refl }
+
+-- there are as many lists of functions as of sites
+pub as_many : (g : SiteGraph) (p : Labels) (fs : List ℕ) (yss : List (List FuncId)) (zss : List (List SiteId)) → map func_numbers yss ≡ map (component g p fs) (roots g p fs) → map site_numbers zss ≡ map (λ r. filter (inside g (component g p fs r)) g.sites) (roots g p fs) → length yss ≡ length zss
+as_many g p fs yss zss y z =
+    let a : length (map func_numbers yss) ≡ length yss = simp length-map in
+    let b : length (map site_numbers zss) ≡ length zss = simp length-map in
+    let d : length (map (component g p fs) (roots g p fs)) ≡ length (roots g p fs) = simp length-map in
+    let e : length (map (λ r. filter (inside g (component g p fs r)) g.sites) (roots g p fs)) ≡ length (roots g p fs) = simp length-map in
+    sym a ∙ ap length y ∙ d ∙ sym e ∙ sym (ap length z) ∙ b
+
+-- the functions of the parts are the components
+pub first_parts : (g : SiteGraph) (p : Labels) (fs : List ℕ) (yss : List (List FuncId)) (zss : List (List SiteId)) (parts : List (List ℕ × List ℕ)) → parts ≡ zip (map func_numbers yss) (map site_numbers zss) → map func_numbers yss ≡ map (component g p fs) (roots g p fs) → map site_numbers zss ≡ map (λ r. filter (inside g (component g p fs r)) g.sites) (roots g p fs) → map (λ (c : List ℕ × List ℕ). c.0) parts ≡ components g p fs
+first_parts g p fs yss zss parts is y z =
+    let a : length (map func_numbers yss) ≡ length yss = simp length-map in
+    let b : length (map site_numbers zss) ≡ length zss = simp length-map in
+    ap (λ (ps : List (List ℕ × List ℕ)). map (λ (c : List ℕ × List ℕ). c.0) ps) is ∙ firsts-zip (map func_numbers yss) (map site_numbers zss) (b ∙ sym (as_many g p fs yss zss y z) ∙ sym a) ∙ y ∙ components_by g p fs
 
 pub parts_are_sets : (G : Graph) (p : Labels) (fs : List ℕ) (yss zss : List (List ℕ)) → All (λ f. f < length G.funcs) fs → yss ≡ map (component (site_graph G) p fs) (roots (site_graph G) p fs) → zss ≡ map (λ r. filter (inside (site_graph G) (component (site_graph G) p fs r)) (site_graph G).sites) (roots (site_graph G) p fs) → All (λ c. IsSetOf G c) (zip yss zss)
 parts_are_sets G p fs yss zss h y z = subst (λ (ls : List (List ℕ)). All (λ c. IsSetOf G c) (zip ls zss)) (sym y) (subst (λ (ls : List (List ℕ)). All (λ c. IsSetOf G c) (zip (map (component (site_graph G) p fs) (roots (site_graph G) p fs)) ls)) (sym z) (zip_all (λ c. IsSetOf G c) (component (site_graph G) p fs) (λ r. filter (inside (site_graph G) (component (site_graph G) p fs r)) (site_graph G).sites) (roots (site_graph G) p fs) (part_is_set G p fs h)))

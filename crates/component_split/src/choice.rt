@@ -56,7 +56,7 @@ fn lowest_bridge(g: &CallGraph, p: &Partial, s: &FuncSet, marks: &mut Marks) -> 
     None
 }
 
-/// Whether a candidate is undecided, and the set without it has several components.
+/// Whether a candidate is undecided, and the set without it has several components. A site on a cycle is passed over.
 fn is_open_bridge(
     g: &CallGraph,
     p: &Partial,
@@ -75,29 +75,7 @@ fn is_open_bridge(
     ensures bridge { result ≡ (is_open (labels p.now site.0) && is_bridge (site_graph g.now) (labels p.now) s.now.0 site.0) }
     ensures marks { marks.new ≡ marks.old }
 {
-    is_open(p, site) && disconnects(g, p, s, site, cycles, marks)
-}
-
-/// Whether the connected set without the site has several components. A site on a cycle is passed over.
-fn disconnects(
-    g: &CallGraph,
-    p: &Partial,
-    s: &FuncSet,
-    site: SiteId,
-    cycles: &[Mark],
-    marks: &mut Marks,
-) -> bool
-    requires set { IsSetOf g.now s.now }
-    requires map { HoldsInside g.now s.now p.now }
-    requires marks { IsMarksOf g.now marks.old }
-    requires connected { IsConnected (site_graph g.now) (labels p.now) s.now.0 }
-    requires cycles { ShowCycles (site_graph g.now) (labels p.now) s.now.0 cycles.now }
-    requires candidate { IsCandidateNumber g.now site.0 }
-    requires inside { inside (site_graph g.now) s.now.0 site.0 ≡ true }
-    ensures bridge { result ≡ is_bridge (site_graph g.now) (labels p.now) s.now.0 site.0 }
-    ensures marks { marks.new ≡ marks.old }
-{
-    if is_on_cycle(g, s, cycles, site) {
+    if !is_open(p, site) || is_on_cycle(g, s, cycles, site) {
         return false;
     }
     is_bridge(g, p, s, site, marks)

@@ -1,7 +1,7 @@
 ghost use Rattle.std.specs.Prelude.{◌≡◌, ◌<◌, ◌≤◌, ℕ, List, true, [], map, replicate, zip, length, IfOk, IfSome, OnOk};
 ghost use Rattle.std.specs.List.{filter, All};
 ghost use Rattle.component_split.specs.Graph.{has, inside, SiteGraph, Labels};
-ghost use Rattle.component_split.specs.Split.{components, lowest};
+ghost use Rattle.component_split.specs.Split.{components, lowest, roots};
 ghost use Rattle.component_split.specs.Classes.{AreComponentsOf, AreParents};
 ghost use Rattle.component_split.specs.Members.{funcs_in, is_head, is_of, AreLows, HaveHeads, IsComponentOf, joined_by, put_at};
 ghost use Rattle.component_split.specs.Over.{func_numbers, site_numbers, site_graph, labels, IsRising, IsSetOf, HoldsInside, IsCandidateNumber, AreSitesInside};
@@ -33,14 +33,32 @@ pub fn components(alloc: Global, g: &CallGraph, p: &Partial, s: &FuncSet) -> Res
     ensures parts { IfOk result (λ parts. map (λ (c : List ℕ × List ℕ). c.0) parts.items ≡ components (site_graph g.now) (labels p.now) s.now.0) }
     ensures sets { IfOk result (λ parts. All (λ c. IsSetOf g.now c) parts.items) }
 {
-    let mut parents = numbers(alloc, s.funcs.len())?;
-    join_sites(&mut parents, g, p, s, None);
-    let members = members_of(alloc, &mut parents, &s.funcs)?;
-    let heads = heads_of(alloc, &members)?;
+    let (members, heads) = members_and_heads(alloc, g, p, s)?;
     let funcs = deal_funcs(alloc, &heads, &members)?;
     let sites = deal_sites(alloc, g, &heads, &members, &s.funcs, &s.sites)?;
     let parts = sets_of(alloc, &funcs, &sites)?;
     Ok(parts)
+}
+
+/// The functions of a set, each with the lowest one of its component, and these lowest ones.
+fn members_and_heads(
+    alloc: Global,
+    g: &CallGraph,
+    p: &Partial,
+    s: &FuncSet,
+) -> Result<(Vec<Member>, Vec<FuncId>), NoMemory>
+    requires set { IsSetOf g.now s.now }
+    requires map { HoldsInside g.now s.now p.now }
+    ensures funcs { IfOk result (λ r. funcs_in r.0.items ≡ s.now.0) }
+    ensures lows { IfOk result (λ r. AreLows (lowest (site_graph g.now) (labels p.now) s.now.0) r.0.items) }
+    ensures heads { IfOk result (λ r. func_numbers r.1.items ≡ roots (site_graph g.now) (labels p.now) s.now.0) }
+    ensures rising { IfOk result (λ r. IsRising (func_numbers r.1.items)) }
+{
+    let mut parents = numbers(alloc, s.funcs.len())?;
+    join_sites(&mut parents, g, p, s, None);
+    let members = members_of(alloc, &mut parents, &s.funcs)?;
+    let heads = heads_of(alloc, &members)?;
+    Ok((members, heads))
 }
 
 /// The functions of a set, each with the lowest one of its component.

@@ -19,6 +19,7 @@ use Rattle.const_fold.specs.FoldConstants.{Facts, known, all_facts, entry_with, 
 use Rattle.const_fold.proofs.Shapes.{made_at, mapped_at, map_length, SameShape, same_length, Reshaped, edge_back, path_back, comes_first, writes_same, param_or_written}
 use Rattle.const_fold.proofs.FactTypes.{Fits, FactsFit, known_typed, facts_fit}
 use Rattle.const_fold.proofs.WithFacts as rows
+use Rattle.const_fold.proofs.WithOperands as operands
 
 each_all : {A : Type 0} (P : A → Type 0) (xs : List A) → ((x : A) → Has xs x → P x) → All P xs
 each_all P xs h = λ k d lt. h _ (has_in xs _ (All-contains_itself xs k d lt))
@@ -65,7 +66,7 @@ module _ (types : ℕ → Scalar) (funcs : ℕ → FuncType) (own : FuncType) (o
   shape k = record {
     phis = same_regs facts k.phis;
     code = same_code facts k.code;
-    edges = λ c in_it. subst (λ ts. Contains ts c) (rows.same_targets (known facts) k.end) in_it;
+    edges = λ c in_it. subst (λ ts. Contains ts c) (operands.same_targets (known facts) k.end) in_it;
   }
 
   pub from_old : (b : ℕ) (l : FlatBlock) → IsBlock new b l → (k : FlatBlock) × IsBlock old b k × (l ≡ block_with facts k)
@@ -80,7 +81,7 @@ module _ (types : ℕ → Scalar) (funcs : ℕ → FuncType) (own : FuncType) (o
   }
 
   edge_forth : (a b : ℕ) → IsEdge old a b → IsEdge new a b
-  edge_forth a b e = (block_with facts e.0, mapped_at (block_with facts) old.blocks a e.0 e.1, subst (λ ts. Contains ts b) (sym (rows.same_targets (known facts) e.0.end)) e.2)
+  edge_forth a b e = (block_with facts e.0, mapped_at (block_with facts) old.blocks a e.0 e.1, subst (λ ts. Contains ts b) (sym (operands.same_targets (known facts) e.0.end)) e.2)
 
   entry_from : (f : Phi) (e : Entry) → Contains (map (entry_with facts) f.entries) e → (x : Entry) × Contains f.entries x × (entry_with facts x ≡ e)
   entry_from f e in_it = let x = map_source (entry_with facts) f.entries e (has_in (map (entry_with facts) f.entries) e in_it) in (x.0, contains f.entries x.0 x.1, x.2)
@@ -153,7 +154,7 @@ module _ (types : ℕ → Scalar) (funcs : ℕ → FuncType) (own : FuncType) (o
 
       by_part : Has (phi_uses (map (phi_with facts) k.phis) ++ code_uses (map (instr_with facts) k.code)) o ⊎ Has (used_at_end (end_with_operands (known facts) k.end)) o → (p : FlatOp) × Has (uses k) p × (known facts p ≡ o)
       by_part (inl g) = by_first (split (phi_uses (map (phi_with facts) k.phis)) (code_uses (map (instr_with facts) k.code)) o g)
-      by_part (inr g) = let p = rows.end_uses facts k.end o g in (p.0, has_right (phi_uses k.phis ++ code_uses k.code) (used_at_end k.end) p.0 p.1, p.2)
+      by_part (inr g) = let p = operands.end_uses (known facts) k.end o g in (p.0, has_right (phi_uses k.phis ++ code_uses k.code) (used_at_end k.end) p.0 p.1, p.2)
 
   pub all_uses_from : (o : FlatOp) → Has (all_uses new) o → (p : FlatOp) × Has (all_uses old) p × (known facts p ≡ o)
   all_uses_from o g =
@@ -184,7 +185,7 @@ module _ (types : ℕ → Scalar) (funcs : ℕ → FuncType) (own : FuncType) (o
         let k = from_old b l e in
         let first = h.defined_first.by_end b older k.0 (path_back old new reshaped (b ∷ older) path) k.1 in
         each_all (ComesFirst new older l (length l.code)) (used_at_end l.end) (λ o in_it.
-        let p = rows.end_uses facts k.0.end o (subst (λ (x : FlatBlock). Has (used_at_end x.end) o) k.2 in_it) in
+        let p = operands.end_uses (known facts) k.0.end o (subst (λ (x : FlatBlock). Has (used_at_end x.end) o) k.2 in_it) in
         subst (λ (z : FlatBlock). ComesFirst new older z (length z.code) o) (sym k.2) (subst (ComesFirst new older (block_with facts k.0) (length (block_with facts k.0).code)) p.2
         (first_at_end older k.0 p.0 (All-contains (ComesFirst old older k.0 (length k.0.code)) (used_at_end k.0.end) p.0 first (contains (used_at_end k.0.end) p.0 p.1)))));
     by_phi = λ b c older l z g e path is_l is_z in_z in_g from.
@@ -221,7 +222,7 @@ module _ (types : ℕ → Scalar) (funcs : ℕ → FuncType) (own : FuncType) (o
         let p = all_uses_from o in_it in
         subst (IsParamOrWritten new) p.2 (known_keeps types facts fit (IsParamOrWritten new) (constant_there new) p.0
         (param_or_written old new reshaped p.0 (All-contains (IsParamOrWritten old) (all_uses old) p.0 h.used (contains (all_uses old) p.0 p.1)))));
-    ends = λ b l e. let k = from_old b l e in subst (λ (x : FlatBlock). IsEndTyped types own.result x.end) (sym k.2) (rows.end_typed types funcs (known facts) (known_typed types facts fit) own.result k.0.end (h.ends b k.0 k.1));
+    ends = λ b l e. let k = from_old b l e in subst (λ (x : FlatBlock). IsEndTyped types own.result x.end) (sym k.2) (operands.end_typed types funcs (known facts) (known_typed types facts fit) own.result k.0.end (h.ends b k.0 k.1));
     defined_first = first_defined;
   }
 

@@ -1,7 +1,7 @@
 -- Facts are of the types of their registers.
 use Rattle.std.proofs.Common.{◌≡◌, ℕ, ◌+◌, ◌<◌, ◌%◌, Bool, true, false, ◌&&◌, nat_eq, nat_lt, is_some, if◌then◌else◌, List, [], ◌∷◌, Option, Some, None, refl, sym, ap, ap₂, ◌∙◌, subst, arith}
 use Rattle.std.proofs.Math.Nat.{mod-lt}
-use Rattle.std.specs.List.{fold, list_all}
+use Rattle.std.specs.List.{fold, list_all, AllByRecursion as Each}
 use Rattle.std.specs.Option.{option_and_then, unwrap_or}
 use Rattle.std.proofs.lemmas.Bool.Decides.{nat_tests}
 use Rattle.std.proofs.lemmas.List.Elements.{All-contains}
@@ -23,7 +23,7 @@ use Rattle.ir_core.specs.Memory.{Bits}
 use Rattle.ir_core.specs.Words.{Outcome, Known, NoWord, NoMeaning, word_op, word_test, word_cast, bit}
 use Rattle.ir_core.specs.Rows.{Is, bin_read, outcome}
 use Rattle.ir_core.specs.Formed.{HasType, FuncType, IsTyped, written_by, IsFormedBody}
-use Rattle.ir_core.proofs.Lists.{Each, each_from, at_has, contains}
+use Rattle.ir_core.proofs.Lists.{each_from, at_has, contains}
 use Rattle.ir_safety.proofs.Typed.{Answers, tested, bin_of, cast_of}
 use Rattle.const_fold.specs.Operands.{word_in, word_of_op, fitting, constant, same_op}
 use Rattle.const_fold.specs.FoldConstants.{Facts, no_facts, known, noted, on_words, outcome_fact, chosen, choice_fact, converted, converts, summed, address_fact, instr_fact, entries_fact, phi_noted, instr_noted, block_noted, all_facts}

@@ -5,3 +5,4 @@ pub mod InPlace
 pub mod Shapes
 pub mod Tables
 pub mod WithFacts
+pub mod WithOperands

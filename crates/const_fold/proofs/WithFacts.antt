@@ -1,4 +1,4 @@
--- Instructions and terminators in which facts stand in the places of registers.
+-- Instructions in which facts stand in the places of registers.
 use Rattle.std.proofs.Common.{◌≡◌, ◌⊎◌, inl, inr, ℕ, suc, ◌<◌, ◌≤◌, Bool, true, false, cond, nat_eq, if◌then◌else◌, List, [], ◌∷◌, map, length, Option, Some, None, All, refl, sym, ap, subst, arith}
 use Rattle.std.proofs.Math.Nat.{mod-lt}
 use Rattle.std.specs.List.{fold, filter}
@@ -6,18 +6,16 @@ use Rattle.std.specs.Option.{option_map, unwrap_or}
 use Rattle.std.proofs.lemmas.List.Elements.{All-filter, All-map}
 use Rattle.oi_base.specs.declared.ids.RegId.{RegId}
 use Rattle.oi_base.specs.declared.words.Width.TheVariants.{W1}
-use Rattle.ir_core.specs.declared.limits.TheConstants.{MOST_PARAMS}
 use Rattle.ir_core.specs.declared.flat.Scalar.{Scalar}
 use Rattle.ir_core.specs.declared.flat.Scalar.TheVariants as scalar
 use Rattle.ir_core.specs.declared.flat.FlatOp.{FlatOp}
 use Rattle.ir_core.specs.declared.flat.Term.{Term}
 use Rattle.ir_core.specs.declared.flat.FlatInstr.{FlatInstr}
 use Rattle.ir_core.specs.declared.flat.FlatInstr.TheVariants.{Bin, Icmp, Select, Cast, Copy, Alloca, Load, Store, Gep, Call, Put, Get, Exit}
-use Rattle.ir_core.specs.declared.flat.FlatEnd.{FlatEnd}
-use Rattle.ir_core.specs.declared.flat.FlatEnd.TheVariants.{Ret, Br, Cond, Switch, Unreachable}
-use Rattle.ir_core.specs.Formed.{HasType, FuncType, IsTyped, AllTyped, IsEndTyped, written_by, used_by, used_at_end, targets}
+use Rattle.ir_core.specs.Formed.{HasType, FuncType, IsTyped, written_by, used_by}
 use Rattle.ir_core.proofs.Lists.{Has, map_source}
-use Rattle.const_fold.specs.Operands.{with_operand, with_operands, end_with_operands, word_in}
+use Rattle.const_fold.specs.Operands.{with_operand, with_operands, word_in}
+use Rattle.const_fold.proofs.WithOperands as rows
 use Rattle.const_fold.specs.FoldConstants.{Facts, known, with_term, is_variable, with_word, address_of, choice_of, shortened, instr_with}
 
 -- ---- what is written
@@ -50,25 +48,6 @@ writes_same facts (Get d) = refl
 writes_same facts (Exit a) = refl
 
 -- ---- what is used
-
-term_operands : (g : FlatOp → FlatOp) (ts : List Term) → map (λ (t : Term). t.operand) (map (with_operand g) ts) ≡ map g (map (λ (t : Term). t.operand) ts)
-term_operands g [] = refl
-term_operands g (t ∷ ts) = ap (λ os. g t.operand ∷ os) (term_operands g ts)
-
-uses_mapped : (g : FlatOp → FlatOp) (i : FlatInstr) → used_by (with_operands g i) ≡ map g (used_by i)
-uses_mapped g (Bin d op w a b) = refl
-uses_mapped g (Icmp d c s a b) = refl
-uses_mapped g (Select d c a b) = refl
-uses_mapped g (Cast d c from to a) = refl
-uses_mapped g (Copy d a) = refl
-uses_mapped g (Alloca d size align) = refl
-uses_mapped g (Load d s align a) = refl
-uses_mapped g (Store s align v a) = refl
-uses_mapped g (Gep d a k ts) = ap (λ os. g a ∷ os) (term_operands g ts)
-uses_mapped g (Call d f args) = refl
-uses_mapped g (Put d a) = refl
-uses_mapped g (Get d) = refl
-uses_mapped g (Exit a) = refl
 
 if_one : (t : Bool) (a b o : FlatOp) → Has ((if t then b else a) ∷ []) o → Has (a ∷ b ∷ []) o
 if_one true a b o h = inr h
@@ -117,68 +96,11 @@ shortened_uses (Exit a) o h = h
 
 -- an operand is what is known of an operand
 pub instr_uses : (facts : Facts) (i : FlatInstr) (o : FlatOp) → Has (used_by (instr_with facts i)) o → (p : FlatOp) × Has (used_by i) p × (known facts p ≡ o)
-instr_uses facts i o h = map_source (known facts) (used_by i) o (subst (λ os. Has os o) (uses_mapped (known facts) i) (shortened_uses (with_operands (known facts) i) o h))
-
-pub end_uses : (facts : Facts) (e : FlatEnd) (o : FlatOp) → Has (used_at_end (end_with_operands (known facts) e)) o → (p : FlatOp) × Has (used_at_end e) p × (known facts p ≡ o)
-end_uses facts (Ret None) o h = absurd h
-end_uses facts (Ret (Some a)) o h = map_source (known facts) (a ∷ []) o h
-end_uses facts (Br b) o h = absurd h
-end_uses facts (Cond c t f) o h = map_source (known facts) (c ∷ []) o h
-end_uses facts (Switch a w cases other) o h = map_source (known facts) (a ∷ []) o h
-end_uses facts Unreachable o h = absurd h
-
-pub same_targets : (g : FlatOp → FlatOp) (e : FlatEnd) → targets (end_with_operands g e) ≡ targets e
-same_targets g (Ret a) = refl
-same_targets g (Br b) = refl
-same_targets g (Cond c t f) = refl
-same_targets g (Switch a w cases other) = refl
-same_targets g Unreachable = refl
+instr_uses facts i o h = map_source (known facts) (used_by i) o (subst (λ os. Has os o) (rows.uses_mapped (known facts) i) (shortened_uses (with_operands (known facts) i) o h))
 
 -- ---- types
 
 module _ (types : ℕ → Scalar) (funcs : ℕ → FuncType) where
-  module _ (g : FlatOp → FlatOp) (typed : (o : FlatOp) (s : Scalar) → HasType types o s → HasType types (g o) s) where
-    all_typed : (os : List FlatOp) (ss : List Scalar) → AllTyped types os ss → AllTyped types (map g os) ss
-    all_typed [] [] h = h
-    all_typed (o ∷ os) (s ∷ ss) h = (typed o s h.0, all_typed os ss h.1)
-    all_typed [] (s ∷ ss) h = h
-    all_typed (o ∷ os) [] h = h
-
-    map_length : (os : List FlatOp) → length (map g os) ≡ length os
-    map_length [] = refl
-    map_length (o ∷ os) = ap suc (map_length os)
-
-    abbrev TermTyped : Term → Type 0
-    TermTyped t = HasType types t.operand (scalar.Word t.width) × (t.stride < 4294967296)
-
-    terms_typed : (ts : List Term) → All TermTyped ts → All TermTyped (map (with_operand g) ts)
-    terms_typed ts h = All-map TermTyped (with_operand g) ts (λ k d lt. let t = h k d lt in (typed _ _ t.0, t.1))
-
-    operands_typed : (i : FlatInstr) → IsTyped types funcs i → IsTyped types funcs (with_operands g i)
-    operands_typed (Bin d op w a b) h = (h.0, typed a (scalar.Word w) h.1, typed b (scalar.Word w) h.2)
-    operands_typed (Icmp d c s a b) h = (h.0, typed a s h.1, typed b s h.2)
-    operands_typed (Select d c a b) h = (typed c (scalar.Word W1) h.0, typed a (types d.0) h.1, typed b (types d.0) h.2)
-    operands_typed (Cast d c from to a) h = (h.0, typed a (scalar.Word from) h.1, h.2)
-    operands_typed (Copy d a) h = typed a (types d.0) h
-    operands_typed (Alloca d size align) h = h
-    operands_typed (Load d s align a) h = (h.0, typed a scalar.Pointer h.1, h.2, h.3)
-    operands_typed (Store s align v a) h = (typed v s h.0, typed a scalar.Pointer h.1, h.2, h.3)
-    operands_typed (Gep d a k ts) h = (h.0, typed a scalar.Pointer h.1, h.2, terms_typed ts h.3)
-    operands_typed (Call d f args) h = (all_typed args (funcs f.0).params h.0, subst (λ n. n ≤ MOST_PARAMS) (sym (map_length args)) h.1, h.2)
-    operands_typed (Put d a) h = (typed a _ h.0, h.1)
-    operands_typed (Get d) h = h
-    operands_typed (Exit a) h = typed a _ h
-
-    pub end_typed : (result : Option Scalar) (e : FlatEnd) → IsEndTyped types result e → IsEndTyped types result (end_with_operands g e)
-    end_typed None (Ret None) h = h
-    end_typed None (Ret (Some a)) h = h
-    end_typed (Some s) (Ret None) h = h
-    end_typed (Some s) (Ret (Some a)) h = typed a s h
-    end_typed result (Br b) h = h
-    end_typed result (Cond c t f) h = typed c (scalar.Word W1) h
-    end_typed result (Switch a w cases other) h = (typed a (scalar.Word w) h.0, h.1, h.2)
-    end_typed result Unreachable h = h
-
   choice_typed : (d : RegId) (o : Option ℕ) (c a b : FlatOp) → IsTyped types funcs (Select d c a b) → IsTyped types funcs (choice_of d o c a b)
   choice_typed d None c a b h = h
   choice_typed d (Some z) c a b h = by_test (nat_eq z 0)
@@ -219,4 +141,4 @@ module _ (types : ℕ → Scalar) (funcs : ℕ → FuncType) where
   shortened_typed (Exit a) h = h
 
   pub instr_typed : (facts : Facts) (typed : (o : FlatOp) (s : Scalar) → HasType types o s → HasType types (known facts o) s) (i : FlatInstr) → IsTyped types funcs i → IsTyped types funcs (instr_with facts i)
-  instr_typed facts typed i h = shortened_typed (with_operands (known facts) i) (operands_typed (known facts) typed i h)
+  instr_typed facts typed i h = shortened_typed (with_operands (known facts) i) (rows.instr_typed types funcs (known facts) typed i h)

@@ -1,5 +1,4 @@
 ghost use Rattle.std.specs.Prelude.{◌≡◌, ◌≢◌, ◌<◌, ◌≤◌, ℕ, IfOk, IfErr, OnOk, IfSome, IfNone, IsTrue, ◌↔◌, length, List, None, Some, option_map, decimal, position, ◌==◌};
-ghost use Rattle.std.specs.List.{position_or_len};
 ghost use Rattle.oi_base.specs.declared.ids.SiteId.{SiteId};
 ghost use Rattle.decisions.specs.declared.faults.DecisionFault.TheVariants as faults;
 ghost use Rattle.decisions.specs.declared.maps.Label.{Label};
@@ -8,11 +7,11 @@ ghost use Rattle.oi_base.specs.Ascending.{IsAscending};
 ghost use Rattle.decisions.specs.Text.{line_of, site_numbers};
 ghost use Rattle.decisions.specs.Reading.{lines_of, entry_of, first_fault, HaveWords, IsTextOf};
 ghost use Rattle.decisions.specs.Steps.{Takes, first_undecided};
-ghost use Rattle.decisions.specs.Ends.{end_of};
 
 use crate::faults::DecisionFault;
 use crate::maps::{Decisions, Label, Partial};
 use crate::printing::push_line;
+use crate::text_lines::{line_end, place_of_byte};
 use oi_base::{NoMemory, SiteId};
 use std::alloc::Global;
 
@@ -43,34 +42,6 @@ pub fn read_decisions(
         rest = after;
     }
     whole_map(alloc, &map)
-}
-
-/// Where the first line ends: after its line feed, or at the end of the text.
-fn line_end(bytes: &[u8]) -> usize
-    requires { length bytes.now < u32.MAX }
-    ensures end { result ≡ end_of bytes.now }
-    ensures within { result ≤ length bytes.now }
-{
-    let at = place_of_byte(bytes, b'\n');
-    if at < bytes.len() { at + 1 } else { at }
-}
-
-/// How many bytes stand before the first such byte.
-fn place_of_byte(bytes: &[u8], byte: u8) -> usize
-    ensures place { result ≡ position_or_len (λ b. b == byte) bytes.now }
-    ensures within { result ≤ length bytes.now }
-{
-    match first_place(bytes, byte) {
-        Some(at) => at,
-        None => bytes.len(),
-    }
-}
-
-fn first_place(bytes: &[u8], byte: u8) -> Option<usize>
-    ensures place { result ≡ position (λ b. b == byte) bytes.now }
-    ensures within { IfSome result (λ at. at ≤ length bytes.now) }
-{
-    bytes.iter().position(|b| *b == byte)
 }
 
 /// Reads a line into the map, which stays as it was at a fault.

@@ -1,6 +1,6 @@
 -- A formed body without blocks to which no edge leads from those that are left is formed, where what those use is written.
 use Rattle.std.proofs.Common.{◌≡◌, ◌≢◌, ◌⊎◌, inl, inr, ⊎_elim, ℕ, zero, suc, ◌<◌, ◌≤◌, Bool, true, false, if◌then◌else◌, List, [], ◌∷◌, ◌++◌, map, length, Option, Some, slice_get, slice_index_or, All, AllPairs, Contains, refl, sym, ap, ap₂, ◌∙◌, subst, arith}
-use Rattle.std.specs.List.{flat_map, filter, filter_map}
+use Rattle.std.specs.List.{flat_map, filter, filter_map, AllByRecursion as Each}
 use Rattle.std.proofs.lemmas.Option.{slice_get_within, get_or_from_slice_get}
 use Rattle.std.proofs.lemmas.List.Elements.{All-contains, All-contains_itself, All-filter, All-map}
 use Rattle.oi_base.specs.Words.{modulus}
@@ -16,7 +16,7 @@ use Rattle.ir_core.specs.declared.flat.FlatEnd.TheVariants.{Ret, Br, Cond, Switc
 use Rattle.ir_core.specs.declared.flat.FlatBlock.{FlatBlock}
 use Rattle.ir_core.specs.declared.flat.FlatBody.{FlatBody}
 use Rattle.ir_core.specs.Formed.{FuncType, HasType, IsBlock, IsEdge, IsPath, IsWritten, ComesIn, ComesFirst, DefinedFirst, IsPhi, IsFormedBody, IsEndTyped, IsParamOrWritten, used_by, used_at_end, targets, uses, all_uses, writes, all_writes, written_by}
-use Rattle.ir_core.proofs.Lists.{Has, Each, Apart, each_from, each_of, contains, has_in, has_at, at_has, has_left, has_right, has_part, has_mapped, has_made, map_source, apart_left, apart_right, apart_across, element}
+use Rattle.ir_core.proofs.Lists.{Has, Apart, each_from, each_of, contains, has_in, has_at, at_has, has_left, has_right, has_part, has_mapped, has_made, map_source, apart_left, apart_right, apart_across, element}
 use Rattle.ir_safety.proofs.Elements.{split, in_part}
 use Rattle.flow_fold.specs.Blocks.{kept_from, number_of, with_entries, entry_renamed, phi_renamed, case_renamed, end_renamed, left_in, only_blocks}
 use Rattle.flow_fold.proofs.BranchesFormed.{has_goes, filter_from, filter_has}

@@ -1,7 +1,7 @@
 -- Lists that are joined, and numbers that stand in one of the parts of a list.
 use Rattle.std.proofs.Common.{◌≡◌, ◌≢◌, ◌⊎◌, inl, inr, ⊎_elim, ℕ, zero, suc, ◌+◌, ◌<◌, ◌≤◌, List, [], ◌∷◌, ◌++◌, map, length, Option, Some, None, slice_get, slice_set, refl, sym, ap, ◌∙◌, subst, arith, append_assoc}
-use Rattle.std.specs.List.{flat_map, filter_map, cons_option}
-use Rattle.ir_core.proofs.Lists.{Has, Each, Apart, each_from, each_of, has_at, at_has, has_left, has_right, has_part, apart_left, apart_right, apart_part, apart_across}
+use Rattle.std.specs.List.{flat_map, filter_map, cons_option, AllByRecursion as Each}
+use Rattle.ir_core.proofs.Lists.{Has, Apart, each_from, each_of, has_at, at_has, has_left, has_right, has_part, apart_left, apart_right, apart_part, apart_across}
 use Rattle.ir_safety.proofs.Elements.{in_part}
 use Rattle.flow_fold.proofs.DroppedFormed.{apart_joined}
 

@@ -10,6 +10,7 @@ pub mod Marking
 pub mod JoinedLists
 pub mod MergeFormed
 pub mod MergedFormed
+pub mod MergeTurns
 pub mod Namings
 pub mod Numbers
 pub mod OneMerge

@@ -8,7 +8,12 @@ use Rattle.oi_base.specs.declared.ids.BlockId.{BlockId}
 use Rattle.flow_fold.specs.declared.walk.Walk.{Walk}
 use Rattle.flow_fold.specs.Walks.{is_marked, is_open, missing, Marks}
 
-fewer : (ms : List Bool) (b : ℕ) → b < length ms → slice_index_or ms b false ≡ false → missing (slice_set ms b true) + 1 ≡ missing ms
+-- what is so after two steps was so before them or came with one of them
+pub in_turn : {Old Mid New X Y Z : Type 0} → (New → Mid ⊎ Y) → (Mid → Old ⊎ X) → (X → Z) → (Y → Z) → New → Old ⊎ Z
+in_turn last first left right now = ⊎_elim (λ m. ⊎_elim (λ o. inl o) (λ x. inr (left x)) (first m)) (λ y. inr (right y)) (last now)
+
+-- a mark more leaves one less to set
+pub fewer : (ms : List Bool) (b : ℕ) → b < length ms → slice_index_or ms b false ≡ false → missing (slice_set ms b true) + 1 ≡ missing ms
 fewer [] b lt e = absurd (omega (arith, lt))
 fewer (true ∷ ms) zero lt e = absurd cc
 fewer (false ∷ ms) zero lt e = refl
@@ -67,19 +72,10 @@ marks_more old mid new xs y m n = record {
       (λ g. n.kept q (m.done q (contains xs q g)))
       (λ g. n.done q (contains (y ∷ []) q g))
       (split xs (y ∷ []) q (has_in (xs ++ y ∷ []) q h));
-  only = λ q e. ⊎_elim
-      (λ f. ⊎_elim (λ g. inl g) (λ g. inr (left q g)) (m.only q f))
-      (λ g. inr (right q g))
-      (n.only q e);
-  open_new = λ q e. ⊎_elim
-      (λ f. ⊎_elim (λ g. inl g) (λ g. inr (n.open_old q g)) (m.open_new q f))
-      (λ g. inr g)
-      (n.open_new q e);
+  only = λ q. in_turn (n.only q) (m.only q) (left q) (right q);
+  open_new = λ q. in_turn (n.open_new q) (m.open_new q) (n.open_old q) (λ g. g);
   open_old = λ q h. n.open_old q (m.open_old q h);
-  open_only = λ q h. ⊎_elim
-      (λ f. ⊎_elim (λ g. inl g) (λ g. inr (left q g)) (m.open_only q f))
-      (λ g. inr (right q g))
-      (n.open_only q h);
+  open_only = λ q. in_turn (n.open_only q) (m.open_only q) (left q) (right q);
   less = let a = m.less in let b = n.less in omega (arith, a, b);
 }
   where

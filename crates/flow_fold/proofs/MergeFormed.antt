@@ -1,6 +1,6 @@
 -- A formed body is formed after one merge, with an empty block in the place of the one that was merged.
 use Rattle.std.proofs.Common.{◌≡◌, ◌≢◌, ◌⊎◌, inl, inr, ⊎_elim, ℕ, zero, suc, ◌+◌, ◌<◌, ◌≤◌, Bool, true, false, not, ◌&&◌, nat_eq, if◌then◌else◌, List, [], ◌∷◌, ◌++◌, map, length, length-append, Option, Some, None, slice_get, slice_set, All, AllPairs, Contains, refl, sym, ap, ap₂, ◌∙◌, subst, arith, append_assoc}
-use Rattle.std.specs.List.{flat_map, filter_map}
+use Rattle.std.specs.List.{flat_map, filter_map, AllByRecursion as Each}
 use Rattle.std.proofs.lemmas.Bool.Decides.{nat_tests}
 use Rattle.std.proofs.lemmas.Option.{slice_get_within}
 use Rattle.std.proofs.lemmas.List.Elements.{All-contains, All-contains_itself, All-map}
@@ -13,7 +13,7 @@ use Rattle.ir_core.specs.declared.flat.FlatInstr.{FlatInstr}
 use Rattle.ir_core.specs.declared.flat.FlatBlock.{FlatBlock}
 use Rattle.ir_core.specs.declared.flat.FlatBody.{FlatBody}
 use Rattle.ir_core.specs.Formed.{FuncType, HasType, IsTyped, IsBlock, IsEdge, IsPath, IsWritten, ComesIn, ComesFirst, DefinedFirst, IsPhi, IsFormedBody, IsEndTyped, IsParamOrWritten, written_by, used_by, used_at_end, targets, uses, all_uses, writes, all_writes}
-use Rattle.ir_core.proofs.Lists.{Has, Each, Apart, contains, has_in, has_at, at_has, has_left, has_right, has_part, has_mapped, map_source, apart_part, each_from}
+use Rattle.ir_core.proofs.Lists.{Has, Apart, contains, has_in, has_at, at_has, has_left, has_right, has_part, has_mapped, map_source, apart_part, each_from}
 use Rattle.ir_safety.proofs.Elements.{split, in_part, mapped_twice}
 use Rattle.const_fold.proofs.Shapes.{made_at, mapped_at, map_length}
 use Rattle.flow_fold.specs.Blocks.{entry_renamed, phi_renamed}

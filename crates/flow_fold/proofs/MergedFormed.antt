@@ -1,7 +1,6 @@
 -- Merging keeps bodies formed: with an empty block in the place of each one that was merged the body is formed, and no edge
 -- leads to these, so that they can be dropped.
 use Rattle.std.proofs.Common.{◌≡◌, ◌≢◌, ◌⊎◌, inl, inr, ℕ, zero, suc, ◌+◌, ◌<◌, Bool, true, false, not, ◌&&◌, ◌||◌, nat_eq, nat_lt, List, [], ◌∷◌, length, Option, Some, None, slice_get, refl, sym, ap, ◌∙◌, subst, arith}
-use Rattle.std.specs.Fn.{iterate}
 use Rattle.std.proofs.lemmas.Bool.Decides.{nat_tests}
 use Rattle.std.proofs.lemmas.Option.{slice_get_within}
 use Rattle.std.proofs.lemmas.List.Elements.{All-contains}
@@ -15,9 +14,10 @@ use Rattle.ir_core.proofs.Lists.{Has, contains, has_in, has_at, at_has, has_part
 use Rattle.ir_safety.proofs.Elements.{in_part}
 use Rattle.flow_fold.specs.Targets.{goes_to}
 use Rattle.flow_fold.specs.Blocks.{only_blocks}
-use Rattle.flow_fold.specs.MergeBlocks.{Merging, comes_only, plain_target, empty_block, merged, merged_where, merged_to, merged_once_at, merged_once, merged_through, unmerged, all_merged, blocks_merged}
+use Rattle.flow_fold.specs.MergeBlocks.{Merging, comes_only, empty_block, merged, unmerged, all_merged, blocks_merged}
 use Rattle.flow_fold.proofs.BranchesFormed.{goes_has, has_goes}
 use Rattle.flow_fold.proofs.DroppedFormed.{source, old_use, still_written, dropped_formed}
+use Rattle.flow_fold.proofs.MergeTurns.{blocks_hold}
 use Rattle.flow_fold.proofs.MergeFormed.{merge_formed, edges_now, empty_now}
 use Rattle.flow_fold.proofs.OneMerge.{plain_targets}
 use Rattle.flow_fold.proofs.Reaching.{IsClosed}
@@ -59,44 +59,6 @@ module _ (types : ℕ → Scalar) (funcs : ℕ → FuncType) (own : FuncType) (b
     where
       alone : (a : ℕ) → IsEdge (record body { blocks = s.blocks }) a m → a ≡ n
       alone a e = let same = only_from n m 0 s.blocks a e.0 only e.1 (has_goes (targets e.0.end) m (has_in (targets e.0.end) m e.2)) in omega (arith, same)
-
-  tested_holds : (s : Merging) → Holds s → (n m : ℕ) (k l : FlatBlock) → slice_get s.blocks n ≡ Some k → slice_get s.blocks m ≡ Some l → plain_target k.end ≡ Some m → (not (nat_eq m 0) && not (nat_eq m n) && comes_only n m 0 s.blocks) ≡ true → Holds (merged s n m k l)
-  tested_holds s h n m k l at_n at_m plain test = by_tests (nat_eq m 0) (nat_eq m n) (comes_only n m 0 s.blocks) refl refl refl test
-    where
-      by_tests : (x y z : Bool) → nat_eq m 0 ≡ x → nat_eq m n ≡ y → comes_only n m 0 s.blocks ≡ z → (not x && not y && z) ≡ true → Holds (merged s n m k l)
-      by_tests false false true ex ey ez t =
-          let not_entry : m ≢ 0 = λ same. absurd (grind (arith, nat_tests)) in
-          let apart : m ≢ n = λ same. absurd (grind (arith, nat_tests)) in
-          merge_holds s h n m k l at_n at_m (plain_targets k.end m plain) not_entry apart ez
-      by_tests false false false ex ey ez t = absurd cc
-      by_tests false true z ex ey ez t = absurd cc
-      by_tests true y z ex ey ez t = absurd cc
-
-  once_holds : (n : ℕ) (s : Merging) → Holds s → Holds (merged_once n s)
-  once_holds n s h = by_block (slice_get s.blocks n) refl
-    where
-      by_target : (k : FlatBlock) → slice_get s.blocks n ≡ Some k → (o : Option ℕ) → plain_target k.end ≡ o → Holds (merged_to s n k o)
-      by_target k at_n None plain = h
-      by_target k at_n (Some m) plain = by_test (not (nat_eq m 0) && not (nat_eq m n) && comes_only n m 0 s.blocks) refl (slice_get s.blocks m) refl
-        where
-          by_test : (t : Bool) → (not (nat_eq m 0) && not (nat_eq m n) && comes_only n m 0 s.blocks) ≡ t → (o : Option FlatBlock) → slice_get s.blocks m ≡ o → Holds (merged_where s n m k t o)
-          by_test false test o at_m = h
-          by_test true test None at_m = h
-          by_test true test (Some l) at_m = tested_holds s h n m k l at_n at_m plain test
-
-      by_block : (o : Option FlatBlock) → slice_get s.blocks n ≡ o → Holds (merged_once_at s n o)
-      by_block None at_n = h
-      by_block (Some k) at_n = by_target k at_n (plain_target k.end) refl
-
-  -- ---- all merges
-
-  turns_hold : (n turns : ℕ) (s : Merging) → Holds s → Holds (iterate (merged_once n) turns s)
-  turns_hold n zero s h = h
-  turns_hold n (suc turns) s h = turns_hold n turns (merged_once n s) (once_holds n s h)
-
-  blocks_hold : (n : ℕ) (s : Merging) → Holds s → Holds (merged_through n s)
-  blocks_hold zero s h = h
-  blocks_hold (suc n) s h = let before = merged_through n s in turns_hold n (length (merged_through n s).blocks) (merged_through n s) (blocks_hold n s h)
 
   begin_holds : IsFormedBody types funcs own body → Holds (unmerged body)
   begin_holds h = record {
@@ -145,4 +107,4 @@ module _ (types : ℕ → Scalar) (funcs : ℕ → FuncType) (own : FuncType) (b
     left_formed = dropped_formed types funcs own old h.formed s.left closed used
 
   pub all_merged_formed : IsFormedBody types funcs own body → IsFormedBody types funcs own (only_blocks (all_merged body).left (record body { blocks = (all_merged body).blocks }))
-  all_merged_formed h = left_formed (all_merged body) (blocks_hold (length body.blocks) (unmerged body) (begin_holds h))
+  all_merged_formed h = left_formed (all_merged body) (blocks_hold Holds (λ t g n m k l at_n at_m plain. merge_holds t g n m k l at_n at_m (plain_targets k.end m plain)) (length body.blocks) (unmerged body) (begin_holds h))

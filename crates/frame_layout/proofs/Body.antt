@@ -3,7 +3,7 @@ use Rattle.std.proofs.Common.{◌≡◌, ◌⊎◌, inl, inr, ℕ, zero, suc, �
 use Rattle.std.proofs.lemmas.List.{length-map, ext_get_or, length-replicate, get_or-replicate, get_or_past}
 use Rattle.std.proofs.lemmas.List.FromFn.{get_or-map-range_with_len, length-range_with_len}
 use Rattle.std.proofs.lemmas.Bool.Decides.{nat_tests}
-use Rattle.std.specs.List.{flat_map, filter_map, range_with_len}
+use Rattle.std.specs.List.{flat_map, filter_map, range_with_len, AllByRecursion as Each}
 use Rattle.std.proofs.lemmas.List.Elements.{recursion_from_All, All-from_recursion}
 use Rattle.std.proofs.lemmas.Bool.{cases_lt}
 use Rattle.ir_core.specs.declared.flat.Scalar.{Scalar}
@@ -20,7 +20,8 @@ use Rattle.frame_layout.specs.declared.homes.Home.TheVariants.{NoHome, InSlot, O
 use Rattle.frame_layout.specs.Homes.{home_among, with_homes}
 use Rattle.frame_layout.specs.Frame.{home}
 use Rattle.frame_layout.proofs.Table.{home_or, absent, with_homes-length, with_homes-get}
-use Rattle.frame_layout.proofs.Each.{Each, OfOption, each_join, each_left, each_right, each_flat, each_of_flat, each_map, each_of_map, each_filter, each_of_filter, each_weaker, each_both, each_by_index, each_recursion, recursion_each, each_free}
+use Rattle.ir_core.proofs.Lists.{each_left, each_right, each_map as each_weaker}
+use Rattle.frame_layout.proofs.Each.{OfOption, each_join, each_flat, each_of_flat, each_map, each_of_map, each_filter, each_of_filter, each_both, each_by_index, each_free}
 use Rattle.frame_layout.proofs.Counts.{one, among, times, by_body, params-past, params-once, among-past, among-once, few_parts}
 
 -- ---- registers in range
@@ -64,7 +65,7 @@ below_allocas m k h =
 -- each part is of a register of the body
 pub parts_below : (types : ℕ → Scalar) (funcs : ℕ → FuncType) (own : FuncType) (b : FlatBody) → IsFormedBody types funcs own b → Each (IsBelow b.regs) (parts b)
 parts_below types funcs own b formed =
-    let written = each_weaker (λ r. (b.params ≤ r) × (r < b.regs)) (λ r. r < b.regs) (all_writes b) (λ r h. h.1) (each_recursion (λ r. (b.params ≤ r) × (r < b.regs)) (all_writes b) (recursion_from_All (λ r. (b.params ≤ r) × (r < b.regs)) (all_writes b) formed.written)) in
+    let written = each_weaker (λ r. (b.params ≤ r) × (r < b.regs)) (λ r. r < b.regs) (all_writes b) (λ r h. h.1) (recursion_from_All (λ r. (b.params ≤ r) × (r < b.regs)) (all_writes b) formed.written) in
     let blocks = each_of_flat (λ r. r < b.regs) writes b.blocks written in
     let ss = each_flat (IsBelow b.regs) block_slots b.blocks (each_weaker (λ k. Each (λ r. r < b.regs) (writes k)) (λ k. Each (IsBelow b.regs) (block_slots k)) b.blocks (below_slots b.regs) blocks) in
     let as' = each_flat (IsBelow b.regs) block_allocas b.blocks (each_weaker (λ k. Each (λ r. r < b.regs) (writes k)) (λ k. Each (IsBelow b.regs) (block_allocas k)) b.blocks (below_allocas b.regs) blocks) in
@@ -79,7 +80,7 @@ once_of r n xs past a b (inr le) = let h = params-past r n le in omega arith
 
 pub parts_once : (types : ℕ → Scalar) (funcs : ℕ → FuncType) (own : FuncType) (b : FlatBody) → IsFormedBody types funcs own b → (r : ℕ) → times r (parts b) ≤ 1
 parts_once types funcs own b formed r =
-    let past = each_weaker (λ q. (b.params ≤ q) × (q < b.regs)) (λ q. b.params ≤ q) (all_writes b) (λ q h. h.0) (each_recursion (λ q. (b.params ≤ q) × (q < b.regs)) (all_writes b) (recursion_from_All (λ q. (b.params ≤ q) × (q < b.regs)) (all_writes b) formed.written)) in
+    let past = each_weaker (λ q. (b.params ≤ q) × (q < b.regs)) (λ q. b.params ≤ q) (all_writes b) (λ q h. h.0) (recursion_from_All (λ q. (b.params ≤ q) × (q < b.regs)) (all_writes b) formed.written) in
     let h = once_of r b.params (all_writes b) past (params-once r b.params) (among-once r (all_writes b) formed.written_once) (cases_lt r b.params) in
     let e = by_body r b in
     omega arith
@@ -144,7 +145,7 @@ parts_need types funcs own b formed =
 
 pub parts_are_parts : (types : ℕ → Scalar) (funcs : ℕ → FuncType) (own : FuncType) (b : FlatBody) → IsFormedBody types funcs own b → All (IsPart b.regs) (parts b)
 parts_are_parts types funcs own b formed =
-    All-from_recursion (IsPart b.regs) (parts b) (recursion_each (IsPart b.regs) (parts b) (each_both (IsBelow b.regs) (λ p. IsNeed p.need) (IsPart b.regs) (parts b) (λ p h k. (h, k)) (parts_below types funcs own b formed) (parts_need types funcs own b formed)))
+    All-from_recursion (IsPart b.regs) (parts b) (each_both (IsBelow b.regs) (λ p. IsNeed p.need) (IsPart b.regs) (parts b) (λ p h k. (h, k)) (parts_below types funcs own b formed) (parts_need types funcs own b formed))
 
 pub parts_are_few : (types : ℕ → Scalar) (funcs : ℕ → FuncType) (own : FuncType) (b : FlatBody) → IsFormedBody types funcs own b → length (parts b) ≤ b.regs
 parts_are_few types funcs own b formed = few_parts b.regs (parts b) (parts_below types funcs own b formed) (parts_once types funcs own b formed)

@@ -1,22 +1,11 @@
 -- What holds of each element of a list.
 use Rattle.std.proofs.Common.{◌≡◌, ℕ, zero, suc, List, [], ◌∷◌, ◌++◌, map, Option, Some, None, slice_get, refl}
-use Rattle.std.specs.List.{AllByRecursion, flat_map, filter_map, cons_option}
-
-abbrev pub Each : {A : Type 0} → (A → Type 0) → List A → Type 0
-Each P [] = Unit {0}
-Each P (x ∷ xs) = P x × Each P xs
+use Rattle.std.specs.List.{AllByRecursion as Each, flat_map, filter_map, cons_option}
+use Rattle.ir_core.proofs.Lists.{each_left, each_right}
 
 pub each_join : {A : Type 0} (P : A → Type 0) (xs ys : List A) → Each P xs → Each P ys → Each P (xs ++ ys)
 each_join P [] ys a b = b
 each_join P (x ∷ xs) ys a b = (a.0, each_join P xs ys a.1 b)
-
-pub each_left : {A : Type 0} (P : A → Type 0) (xs ys : List A) → Each P (xs ++ ys) → Each P xs
-each_left P [] ys e = tt
-each_left P (x ∷ xs) ys e = (e.0, each_left P xs ys e.1)
-
-pub each_right : {A : Type 0} (P : A → Type 0) (xs ys : List A) → Each P (xs ++ ys) → Each P ys
-each_right P [] ys e = e
-each_right P (x ∷ xs) ys e = each_right P xs ys e.1
 
 pub each_flat : {A B : Type 0} (P : B → Type 0) (f : A → List B) (xs : List A) → Each (λ x. Each P (f x)) xs → Each P (flat_map f xs)
 each_flat P f [] e = tt
@@ -55,10 +44,6 @@ pub each_of_filter : {A B : Type 0} (P : B → Type 0) (f : A → Option B) (xs 
 each_of_filter P f [] e = tt
 each_of_filter P f (x ∷ xs) e = let both = each_of_before P (f x) (filter_map f xs) e in (both.0, each_of_filter P f xs both.1)
 
-pub each_weaker : {A : Type 0} (P Q : A → Type 0) (xs : List A) → ((x : A) → P x → Q x) → Each P xs → Each Q xs
-each_weaker P Q [] f e = tt
-each_weaker P Q (x ∷ xs) f e = (f x e.0, each_weaker P Q xs f e.1)
-
 pub each_both : {A : Type 0} (P Q R : A → Type 0) (xs : List A) → ((x : A) → P x → Q x → R x) → Each P xs → Each Q xs → Each R xs
 each_both P Q R [] f a b = tt
 each_both P Q R (x ∷ xs) f a b = (f x a.0 b.0, each_both P Q R xs f a.1 b.1)
@@ -67,14 +52,6 @@ each_both P Q R (x ∷ xs) f a b = (f x a.0 b.0, each_both P Q R xs f a.1 b.1)
 pub each_by_index : {A : Type 0} (P : A → Type 0) (xs : List A) → ((n : ℕ) (x : A) → slice_get xs n ≡ Some x → P x) → Each P xs
 each_by_index P [] f = tt
 each_by_index P (x ∷ xs) f = (f zero x refl, each_by_index P xs (λ n y e. f (suc n) y e))
-
-pub each_recursion : {A : Type 0} (P : A → Type 0) (xs : List A) → AllByRecursion P xs → Each P xs
-each_recursion P [] e = tt
-each_recursion P (x ∷ xs) e = (e.0, each_recursion P xs e.1)
-
-pub recursion_each : {A : Type 0} (P : A → Type 0) (xs : List A) → Each P xs → AllByRecursion P xs
-recursion_each P [] e = tt
-recursion_each P (x ∷ xs) e = (e.0, recursion_each P xs e.1)
 
 pub each_free : {A : Type 0} (P : A → Type 0) (xs : List A) → ((x : A) → P x) → Each P xs
 each_free P [] f = tt

@@ -1,6 +1,6 @@
 -- Which homes a formed body's registers have, and that they lie apart.
 use Rattle.std.proofs.Common.{◌≡◌, ◌≢◌, ◌⊎◌, inl, inr, ⊎_elim, ℕ, zero, suc, ◌+◌, ◌%◌, ◌<◌, ◌≤◌, Bool, true, false, nat_eq, List, [], ◌∷◌, ◌++◌, map, slice_get, Option, Some, None, refl, sym, ap, ◌∙◌, subst, arith}
-use Rattle.std.specs.List.{flat_map, filter_map, cons_option}
+use Rattle.std.specs.List.{flat_map, filter_map, cons_option, AllByRecursion as Each}
 use Rattle.std.proofs.lemmas.Bool.{cases_lt}
 use Rattle.std.proofs.lemmas.Bool.Decides.{nat_tests}
 use Rattle.oi_base.specs.declared.ids.RegId.{RegId}
@@ -19,7 +19,7 @@ use Rattle.frame_layout.specs.Parts.{part, slot_part, slot_for, alloca_part, phi
 use Rattle.frame_layout.specs.Homes.{home_at, home_among, slot_in, shadow_in, place_in}
 use Rattle.frame_layout.specs.Frame.{size, frame, slots_end, home, slot, shadow, place}
 use Rattle.frame_layout.specs.Laws.{HasPhi, HasInstr, IsNoAlloca, IsWrittenBy, HaveHomes, AreApart, LieApart}
-use Rattle.frame_layout.proofs.Each.{Each, OfOption, each_join, each_flat, each_map, each_filter, each_free, each_by_index}
+use Rattle.frame_layout.proofs.Each.{OfOption, each_join, each_flat, each_map, each_filter, each_free, each_by_index}
 use Rattle.frame_layout.proofs.Ends.{ends_after, end_of_join}
 use Rattle.frame_layout.proofs.Body.{parts_once, parts_need}
 use Rattle.frame_layout.proofs.Standing.{StandsAt, Found, found, stands, Has, stands-low, stands-high, stands-apart, stands-split, stands-each, stands-home, IsSlotNeed, IsMemoryNeed, slots-aligned, stands-aligned}

@@ -2,6 +2,7 @@
 use Rattle.frame_layout.specs.declared.laying.TheConstants.{LARGEST_FRAME}
 use Rattle.std.proofs.Common.{◌≡◌, ℕ, zero, suc, ◌+◌, ◌*◌, ◌<◌, ◌≤◌, All, List, [], ◌∷◌, length, set, replicate, subst, arith}
 use Rattle.std.specs.Prelude.{slice_index_or}
+use Rattle.std.specs.List.{AllByRecursion as Each}
 use Rattle.std.proofs.lemmas.List.Elements.{recursion_from_All, All-set, All-replicate}
 use Rattle.ir_core.specs.Formed.{IsAlign}
 use Rattle.std.specs.Int.{next_multiple_of}
@@ -13,7 +14,7 @@ use Rattle.frame_layout.specs.declared.homes.Home.TheVariants.{NoHome}
 use Rattle.frame_layout.specs.Parts.{begin_of, end_of, end_of_all, IsNeed, IsPart}
 use Rattle.frame_layout.specs.Homes.{home_at, with_homes, IsLow}
 use Rattle.frame_layout.specs.Frame.{size}
-use Rattle.frame_layout.proofs.Each.{Each, each_weaker, each_recursion}
+use Rattle.ir_core.proofs.Lists.{each_map as each_weaker}
 use Rattle.frame_layout.proofs.Ends.{ends_after}
 
 -- one of five numbers
@@ -49,7 +50,7 @@ rounded_all at (p ∷ ps) needs =
     omega arith
 
 needs_of : (n : ℕ) (ps : List Part) → All (IsPart n) ps → Each (λ p. IsNeed p.need) ps
-needs_of n ps all = each_weaker (IsPart n) (λ p. IsNeed p.need) ps (λ p h. h.1) (each_recursion (IsPart n) ps (recursion_from_All (IsPart n) ps all))
+needs_of n ps all = each_weaker (IsPart n) (λ p. IsNeed p.need) ps (λ p h. h.1) (recursion_from_All (IsPart n) ps all)
 
 -- a size is below 2^64
 pub size_room : (n : ℕ) (ps : List Part) → All (IsPart n) ps → length ps ≤ n → n < 4294967296 → size ps < 18446744073709551616

@@ -1,5 +1,6 @@
 -- Parts that stand among others.
 use Rattle.std.proofs.Common.{◌≡◌, ◌≢◌, ◌⊎◌, inl, inr, ⊎_elim, ℕ, ◌+◌, ◌%◌, ◌≤◌, Bool, true, false, nat_eq, List, [], ◌∷◌, ◌++◌, refl, sym, ap, ◌∙◌, subst, arith}
+use Rattle.std.specs.List.{AllByRecursion as Each}
 use Rattle.std.proofs.lemmas.Bool.Decides.{nat_tests}
 use Rattle.std.specs.Int.{next_multiple_of}
 use Rattle.frame_layout.specs.declared.parts.Need.{Need}
@@ -10,7 +11,6 @@ use Rattle.frame_layout.specs.declared.homes.Home.TheVariants.{NoHome}
 use Rattle.frame_layout.specs.Parts.{begin_of, end_of, end_of_all, size_of, IsNeed}
 use Rattle.frame_layout.specs.Homes.{home_at, home_among}
 use Rattle.frame_layout.specs.Laws.{AreApart}
-use Rattle.frame_layout.proofs.Each.{Each}
 use Rattle.frame_layout.proofs.Counts.{one, times}
 use Rattle.frame_layout.proofs.Ends.{begins_after, ends_after}
 use Rattle.frame_layout.proofs.Reach.{align_cases}

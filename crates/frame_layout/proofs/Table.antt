@@ -1,6 +1,7 @@
 -- The table of homes has each part's home at its register, where no register has two parts.
 use Rattle.std.proofs.Common.{◌≡◌, ◌≢◌, ℕ, ◌+◌, ◌<◌, ◌≤◌, Bool, true, false, nat_eq, List, [], ◌∷◌, length, get_or, set, refl, sym, ap, ◌∙◌, arith}
 use Rattle.std.specs.Prelude.{if◌then◌else◌}
+use Rattle.std.specs.List.{AllByRecursion as Each}
 use Rattle.std.proofs.lemmas.Bool.Decides.{nat_tests}
 use Rattle.std.proofs.lemmas.List.{get_or-set_other, length-set}
 use Rattle.std.proofs.lemmas.Grind.{get_or-set_at}
@@ -11,7 +12,6 @@ use Rattle.frame_layout.specs.declared.homes.Home.{Home}
 use Rattle.frame_layout.specs.declared.homes.Home.TheVariants.{NoHome, InSlot, OfPhi, InMemory}
 use Rattle.frame_layout.specs.Parts.{begin_of, end_of}
 use Rattle.frame_layout.specs.Homes.{home_at, home_among, with_homes}
-use Rattle.frame_layout.proofs.Each.{Each}
 use Rattle.frame_layout.proofs.Counts.{one, times}
 
 -- a home, or where there is none another

@@ -4,7 +4,8 @@ ghost use Rattle.inline_certificate.specs.Certificates.{AreFuncs, IsWord, IsVers
 ghost use Rattle.inline_certificate.specs.Steps.{ReadsAs, Spells};
 
 use crate::nodes::CertNode;
-use crate::words::{after_blank, after_start, inside, number, place_of_byte, value};
+use crate::words::{after_blank, after_start, inside, number, value};
+use decisions::place_of_byte;
 use oi_base::{Boxed, FuncId, Items, NoMemory, SiteId};
 use std::alloc::Global;
 

@@ -1,10 +1,10 @@
-ghost use Rattle.std.specs.Prelude.{◌≡◌, ◌<◌, ◌≤◌, ℕ, List, IfSome, position, ◌++◌, [], ◌∷◌, ◌↔◌, IsTrue, length, decimal, codes, MatchOption, ◌==◌};
-ghost use Rattle.std.specs.List.{position_or_len};
-ghost use Rattle.decisions.specs.Ends.{end_of};
+ghost use Rattle.std.specs.Prelude.{◌≡◌, ◌<◌, ℕ, List, ◌++◌, [], ◌∷◌, ◌↔◌, IsTrue, length, decimal, codes, MatchOption};
 ghost use Rattle.inline_certificate.specs.Text.{value_word};
 ghost use Rattle.inline_certificate.specs.Certificates.{IsWord, IsValue};
 ghost use Rattle.inline_certificate.specs.Steps.{Spells};
 ghost use Rattle.inline_certificate.specs.Parts.{IsPlain, IsAfterBlank, IsInside, IsCutAt};
+
+use decisions::line_end;
 
 /// The number that a word writes in decimal, without leading zeros.
 pub fn number(word: &[u8]) -> Option<u32>
@@ -79,37 +79,10 @@ pub fn after_start<'a>(text: &'a [u8], start: &[u8]) -> Option<&'a [u8]>
     if front == start { Some(rest) } else { None }
 }
 
-/// How many bytes stand before the first such byte.
-pub fn place_of_byte(bytes: &[u8], byte: u8) -> usize
-    ensures place { result ≡ position_or_len (λ b. b == byte) bytes.now }
-    ensures within { result ≤ length bytes.now }
-{
-    match first_place(bytes, byte) {
-        Some(at) => at,
-        None => bytes.len(),
-    }
-}
-
-fn first_place(bytes: &[u8], byte: u8) -> Option<usize>
-    ensures place { result ≡ position (λ b. b == byte) bytes.now }
-    ensures within { IfSome result (λ at. at ≤ length bytes.now) }
-{
-    bytes.iter().position(|b| *b == byte)
-}
-
 /// The first line, with its line feed where it has one, and what follows it.
 pub fn first_line(bytes: &[u8]) -> (&[u8], &[u8])
     requires { 0 < length bytes.now }
     ensures { IsCutAt bytes.now result.0.now result.1.now }
 {
     bytes.split_at(line_end(bytes))
-}
-
-/// Where the first line ends: after its line feed, or at the end of the text.
-fn line_end(bytes: &[u8]) -> usize
-    ensures end { result ≡ end_of bytes.now }
-    ensures within { result ≤ length bytes.now }
-{
-    let at = place_of_byte(bytes, b'\n');
-    if at < bytes.len() { at + 1 } else { at }
 }

@@ -15,14 +15,14 @@ use Rattle.ir_core.proofs.Lists.{Has, at_has, contains, has_in, has_at, has_mapp
 use Rattle.ir_safety.proofs.Elements.{split, in_part}
 use Rattle.const_fold.specs.Operands.{end_with_operands}
 use Rattle.const_fold.proofs.Shapes.{made_at, mapped_at, map_length, SameShape, same_length, Reshaped, edge_back, path_back, comes_first, writes_same, param_or_written}
-use Rattle.const_fold.proofs.WithFacts.{same_targets, end_typed}
+use Rattle.const_fold.proofs.WithOperands.{same_targets, end_typed}
+use Rattle.const_fold.proofs.WithOperands as rows
 use Rattle.local_passes.specs.LocalCopies.{Sources, source, from_source, end_sources, sources_from, entry_copied, phi_copied, instr_copied, code_copied, block_copied, all_ends, copies_replaced}
 use Rattle.local_passes.specs.DropDead.{values}
 use Rattle.local_passes.proofs.Needing.{of_phi, of_instr, of_end}
 use Rattle.local_passes.proofs.Numbered.{numbered_source, numbered_same}
 use Rattle.local_passes.proofs.SourceLaws.{source_typed, source_there, source_first}
 use Rattle.local_passes.proofs.Sublists.{each_all}
-use Rattle.local_passes.proofs.WithOperands as rows
 
 -- what holds of a register's source holds of an operand
 with_source : (s : Sources) (P Q : FlatOp → Type 0) → ((r : ℕ) → P (Reg (record { 0 = r })) → Q (Reg (record { 0 = s r }))) → ((o : FlatOp) → P o → Q o) → (o : FlatOp) → P o → Q (from_source s o)

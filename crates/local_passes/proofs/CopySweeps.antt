@@ -1,7 +1,7 @@
 -- Sweeps over the code of a block, and over blocks.
 use Rattle.std.proofs.Common.{◌≡◌, ◌≢◌, ◌⊎◌, inl, inr, ⊎_elim, ℕ, zero, suc, ◌+◌, ◌<◌, ◌≤◌, List, [], ◌∷◌, ◌++◌, map, length, length-append, take, drop, Option, Some, None, slice_get, AllPairs, Contains, refl, sym, ap, ap₂, ◌∙◌, subst, arith, add-one}
 use Rattle.std.specs.Prelude.{reverse}
-use Rattle.std.specs.List.{flat_map}
+use Rattle.std.specs.List.{flat_map, AllByRecursion as Each}
 use Rattle.std.proofs.lemmas.List.{append-nil, map-append}
 use Rattle.std.proofs.lemmas.Grind.{flat_map-append}
 use Rattle.ir_core.specs.declared.flat.FlatInstr.{FlatInstr}
@@ -13,7 +13,7 @@ use Rattle.ir_core.specs.WellFormed.{IsWellFormed}
 use Rattle.ir_core.proofs.ByPosition.{take_next}
 use Rattle.ir_safety.proofs.Elements.{split, mapped_twice}
 use Rattle.const_fold.proofs.Shapes.{map_length}
-use Rattle.ir_core.proofs.Lists.{Has, Each, Apart, each_of, each_from, apart_left, apart_right, apart_across, contains, has_in, has_left, has_right}
+use Rattle.ir_core.proofs.Lists.{Has, Apart, each_of, each_from, apart_left, apart_right, apart_across, contains, has_in, has_left, has_right}
 use Rattle.const_fold.specs.Operands.{with_operands}
 use Rattle.local_passes.specs.declared.copy_table.Definition.{Definition}
 use Rattle.local_passes.specs.declared.copy_table.Span.{Span}

@@ -6,7 +6,6 @@ pub mod NeedMarks
 pub mod UseTables
 pub mod Needing
 pub mod NeedWalk
-pub mod WithOperands
 pub mod SourceLaws
 pub mod CopiesFormed
 pub mod Sublists

@@ -12,15 +12,9 @@ use Rattle.oi_base.specs.declared.ids.RegId.{RegId}
 use Rattle.ir_core.specs.declared.flat.FlatOp.{FlatOp}
 use Rattle.ir_core.specs.declared.flat.FlatOp.TheVariants.{Reg}
 use Rattle.flow_fold.specs.Walks.{marked_in, missing}
+use Rattle.flow_fold.proofs.Marking.{fewer, in_turn}
 use Rattle.local_passes.specs.declared.needs.Needs.{Needs}
 use Rattle.local_passes.specs.NeedTables.{is_open, Names, Marks}
-
-fewer : (ms : List Bool) (b : ℕ) → b < length ms → slice_index_or ms b false ≡ false → missing (slice_set ms b true) + 1 ≡ missing ms
-fewer [] b lt e = absurd (omega (arith, lt))
-fewer (true ∷ ms) zero lt e = absurd cc
-fewer (false ∷ ms) zero lt e = refl
-fewer (true ∷ ms) (suc b) lt e = fewer ms b (omega (arith, lt)) e
-fewer (false ∷ ms) (suc b) lt e = ap (λ n. n + 1) (fewer ms b (omega (arith, lt)) e)
 
 abbrev register : FlatOp → ℕ
 register (Reg r) = r.0
@@ -115,19 +109,10 @@ marks_more old mid new xs ys m n = record {
       (λ g. n.kept q (m.done q lt (contains xs (Reg (record { 0 = q })) g)))
       (λ g. n.done q (subst (λ k. q < k) (sym m.long) lt) (contains ys (Reg (record { 0 = q })) g))
       (split xs ys (Reg (record { 0 = q })) (has_in (xs ++ ys) (Reg (record { 0 = q })) h));
-  only = λ q e. ⊎_elim
-      (λ f. ⊎_elim (λ g. inl g) (λ g. inr (left q g)) (m.only q f))
-      (λ g. inr (right q g))
-      (n.only q e);
-  open_new = λ q e. ⊎_elim
-      (λ f. ⊎_elim (λ g. inl g) (λ g. inr (n.open_old q g)) (m.open_new q f))
-      (λ g. inr g)
-      (n.open_new q e);
+  only = λ q. in_turn (n.only q) (m.only q) (left q) (right q);
+  open_new = λ q. in_turn (n.open_new q) (m.open_new q) (n.open_old q) (λ g. g);
   open_old = λ q h. n.open_old q (m.open_old q h);
-  open_only = λ q h. ⊎_elim
-      (λ f. ⊎_elim (λ g. inl g) (λ g. inr (left q g)) (m.open_only q f))
-      (λ g. inr (right q g))
-      (n.open_only q h);
+  open_only = λ q. in_turn (n.open_only q) (m.open_only q) (left q) (right q);
   less = let a = m.less in let b = n.less in omega (arith, a, b);
 }
   where

@@ -1,5 +1,6 @@
 -- When a body of one block without phis and successors is formed.
 use Rattle.std.proofs.Common.{◌≡◌, ◌≢◌, ℕ, zero, suc, ◌<◌, ◌≤◌, List, [], ◌∷◌, length, Some, None, slice_get, All, AllPairs, Contains, refl, sym, ap, ◌∙◌, subst}
+use Rattle.std.specs.List.{AllByRecursion as Each}
 use Rattle.std.proofs.lemmas.List.Elements.{All-contains_itself}
 use Rattle.ir_core.specs.declared.limits.TheConstants.{MOST_PARAMS}
 use Rattle.ir_core.specs.declared.flat.Scalar.{Scalar}
@@ -7,7 +8,7 @@ use Rattle.ir_core.specs.declared.flat.FlatInstr.{FlatInstr}
 use Rattle.ir_core.specs.declared.flat.FlatBlock.{FlatBlock}
 use Rattle.ir_core.specs.declared.flat.FlatBody.{FlatBody}
 use Rattle.ir_core.specs.Formed.{FuncType, IsTyped, IsEndTyped, IsBlock, IsEdge, IsPath, ComesFirst, IsFormedBody, IsParamOrWritten, used_by, used_at_end, targets, all_writes, all_uses}
-use Rattle.ir_core.proofs.Lists.{Each, each_of, has_in}
+use Rattle.ir_core.proofs.Lists.{each_of, has_in}
 
 all_of : {A : Type 0} (P : A → Type 0) (xs : List A) → Each P xs → All P xs
 all_of P xs e = λ k d lt. each_of P xs _ e (has_in xs _ (All-contains_itself xs k d lt))

@@ -1,5 +1,6 @@
 -- The sample is formed.
 use Rattle.std.proofs.Common.{◌≡◌, inl, inr, ℕ, zero, suc, ◌<◌, [], ◌∷◌, Some, None, slice_get, refl, sym, subst, arith}
+use Rattle.std.specs.List.{AllByRecursion as Each}
 use Rattle.oi_base.specs.declared.words.Width.TheVariants.{W32}
 use Rattle.ir_core.specs.declared.flat.BinOp.TheVariants.{Add, Mul}
 use Rattle.ir_core.specs.declared.flat.Scalar.{Scalar}
@@ -10,7 +11,6 @@ use Rattle.ir_core.specs.declared.flat.FlatInstr.TheVariants.{Bin, Copy}
 use Rattle.ir_core.specs.Formed.{FuncType, IsTyped, ComesFirst, used_by}
 use Rattle.ir_core.specs.declared.flat.FlatBody.{FlatBody}
 use Rattle.ir_core.specs.WellFormed.{IsWellFormed}
-use Rattle.ir_core.proofs.Lists.{Each}
 use Rattle.flow_fold.proofs.DroppedFormed.{pairs_apart}
 use Rattle.passes_tests.specs.Sample.{sample_code, sample_block, sample}
 use Rattle.passes_tests.proofs.OneBlock.{one_block_formed}

@@ -1,5 +1,5 @@
--- Instructions with other operands: what they write and use, and their types.
-use Rattle.std.proofs.Common.{◌≡◌, ℕ, suc, ◌≤◌, ◌<◌, List, [], ◌∷◌, map, length, Some, None, All, refl, sym, ap, subst}
+-- Instructions and terminators with other operands: what they write and use, where they lead, and their types.
+use Rattle.std.proofs.Common.{◌≡◌, ℕ, suc, ◌≤◌, ◌<◌, List, [], ◌∷◌, map, length, Option, Some, None, All, refl, sym, ap, subst}
 use Rattle.std.proofs.lemmas.List.Elements.{All-map}
 use Rattle.ir_core.specs.declared.limits.TheConstants.{MOST_PARAMS}
 use Rattle.ir_core.specs.declared.flat.Scalar.{Scalar}
@@ -11,7 +11,7 @@ use Rattle.ir_core.specs.declared.flat.FlatInstr.{FlatInstr}
 use Rattle.ir_core.specs.declared.flat.FlatInstr.TheVariants.{Bin, Icmp, Select, Cast, Copy, Alloca, Load, Store, Gep, Call, Put, Get, Exit}
 use Rattle.ir_core.specs.declared.flat.FlatEnd.{FlatEnd}
 use Rattle.ir_core.specs.declared.flat.FlatEnd.TheVariants.{Ret, Br, Cond, Switch, Unreachable}
-use Rattle.ir_core.specs.Formed.{HasType, FuncType, IsTyped, AllTyped, written_by, used_by, used_at_end}
+use Rattle.ir_core.specs.Formed.{HasType, FuncType, IsTyped, AllTyped, IsEndTyped, written_by, used_by, used_at_end, targets}
 use Rattle.ir_core.proofs.Lists.{Has, map_source}
 use Rattle.const_fold.specs.Operands.{with_operand, with_operands, end_with_operands}
 
@@ -34,7 +34,7 @@ term_operands : (g : FlatOp → FlatOp) (ts : List Term) → map (λ (t : Term).
 term_operands g [] = refl
 term_operands g (t ∷ ts) = ap (λ os. g t.operand ∷ os) (term_operands g ts)
 
-uses_mapped : (g : FlatOp → FlatOp) (i : FlatInstr) → used_by (with_operands g i) ≡ map g (used_by i)
+pub uses_mapped : (g : FlatOp → FlatOp) (i : FlatInstr) → used_by (with_operands g i) ≡ map g (used_by i)
 uses_mapped g (Bin d op w a b) = refl
 uses_mapped g (Icmp d c s a b) = refl
 uses_mapped g (Select d c a b) = refl
@@ -60,6 +60,13 @@ end_uses g (Br b) o h = absurd h
 end_uses g (Cond c t f) o h = map_source g (c ∷ []) o h
 end_uses g (Switch a w cases other) o h = map_source g (a ∷ []) o h
 end_uses g Unreachable o h = absurd h
+
+pub same_targets : (g : FlatOp → FlatOp) (e : FlatEnd) → targets (end_with_operands g e) ≡ targets e
+same_targets g (Ret a) = refl
+same_targets g (Br b) = refl
+same_targets g (Cond c t f) = refl
+same_targets g (Switch a w cases other) = refl
+same_targets g Unreachable = refl
 
 module _ (types : ℕ → Scalar) (funcs : ℕ → FuncType) (g : FlatOp → FlatOp) (typed : (o : FlatOp) (s : Scalar) → HasType types o s → HasType types (g o) s) where
   all_typed : (os : List FlatOp) (ss : List Scalar) → AllTyped types os ss → AllTyped types (map g os) ss
@@ -92,3 +99,13 @@ module _ (types : ℕ → Scalar) (funcs : ℕ → FuncType) (g : FlatOp → Fla
   instr_typed (Put d a) h = (typed a _ h.0, h.1)
   instr_typed (Get d) h = h
   instr_typed (Exit a) h = typed a _ h
+
+  pub end_typed : (result : Option Scalar) (e : FlatEnd) → IsEndTyped types result e → IsEndTyped types result (end_with_operands g e)
+  end_typed None (Ret None) h = h
+  end_typed None (Ret (Some a)) h = h
+  end_typed (Some s) (Ret None) h = h
+  end_typed (Some s) (Ret (Some a)) h = typed a s h
+  end_typed result (Br b) h = h
+  end_typed result (Cond c t f) h = typed c (scalar.Word W1) h
+  end_typed result (Switch a w cases other) h = (typed a (scalar.Word w) h.0, h.1, h.2)
+  end_typed result Unreachable h = h
