@@ -4,7 +4,6 @@ mod CaseLaws
 mod CaseWords
 mod ConstantLaws
 mod EntryLaws
-mod InnerTypes
 mod KindLaws
 mod Measured
 mod NameLaws

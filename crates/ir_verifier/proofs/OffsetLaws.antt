@@ -12,7 +12,7 @@ use Rattle.ir_core.specs.declared.constant.TypedCount.{TypedCount}
 use Rattle.ir_core.specs.Sizes.{IsLaid, fields}
 use Rattle.ir_core.specs.ValidConsts.{Index, Walk, GoesInto, Fits, FitsType, IndicesFit, const_index, plain, distance_by, distance_into}
 use Rattle.module_rules.specs.Walks.{next}
-use Rattle.ir_verifier.proofs.InnerTypes.{IsSmall, into_laid, into_small}
+use Rattle.module_rules.proofs.InnerTypes.{IsSmall, into_laid, into_small}
 use Rattle.module_rules.proofs.WalkLaws.{of_next, to_next}
 
 -- the number of an `i32` that fits it

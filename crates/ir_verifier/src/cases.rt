@@ -1,13 +1,12 @@
 ghost use Rattle.std.specs.Prelude.{◌≡◌, None, [], IfOk, OnOk};
-ghost use Rattle.oi_base.specs.Words.{modulus, word_of};
 ghost use Rattle.ir_core.specs.declared.module.Module as modules;
 ghost use Rattle.ir_core.specs.ValidOps.{BreaksCases};
 ghost use Rattle.module_rules.specs.First.{earliest, IsFound};
 ghost use Rattle.ir_verifier.specs.Faults.{word_value, is_new_case, with_case, are_good_cases, has_good_cases, case_faults};
 
 use ir_core::{Const, End, Func, IrType, Operand, SwitchCase};
-use module_rules::{Numbers, earlier, words};
-use oi_base::{NoMemory, Place, Width};
+use module_rules::{Numbers, earlier, word_of};
+use oi_base::{NoMemory, Place};
 use std::alloc::Global;
 
 /// The first switch whose cases are not different words.
@@ -72,11 +71,4 @@ fn word_value(t: &IrType, value: &Operand) -> Option<u32>
         (IrType::Int(_), Operand::Const(Const::Undef)) => Some(0),
         _ => None,
     }
-}
-
-/// The word of a width that is equal to a number modulo two to the width.
-pub fn word_of(w: Width, number: i128) -> u32
-    ensures { result ≡ word_of (modulus w) number }
-{
-    number.rem_euclid(words(w)) as u32
 }

@@ -6,9 +6,9 @@ ghost use Rattle.ir_core.specs.ValidConsts.{meaning};
 ghost use Rattle.ir_verifier.specs.Forms.{meant};
 ghost use Rattle.ir_verifier.specs.PhiFaults.{same_meaning, IsMeasured};
 
-use crate::cases::word_of;
 use crate::offsets::gep_offset;
 use ir_core::{Const, IrType, LocalId, Module, Operand, SymId};
+use module_rules::word_of;
 use std::marker::Model;
 
 /// What an operand says: a register or parameter, a word, null, a global's address and a number of bytes, poison, or

@@ -1,12 +1,12 @@
 ghost use Rattle.std.specs.Prelude.{◌≡◌, ◌%◌, ◌+◌, ◌≤◌, ℕ, Some, map};
+ghost use Rattle.ir_core.specs.declared.limits.TheConstants.{LARGEST};
 ghost use Rattle.ir_core.specs.declared.ty.IrType.{IrType as types, out-IrType};
 ghost use Rattle.ir_core.specs.Sizes.{IsLaid, size};
 ghost use Rattle.ir_core.specs.ValidTypes.{IsTooLarge};
 ghost use Rattle.ir_core.specs.ValidConsts.{FitsType, Walk, ConstWalk, IndicesFit, GoesInto, const_index, plain, index_moves, distance_by, distance_into, gep_offset};
 
-use crate::cases::word_of;
 use ir_core::{IrType, Module, TypedCount, field_offset, size_of};
-use module_rules::next_by;
+use module_rules::{next_by, word_of};
 use oi_base::sext;
 
 /// How far a constant `getelementptr` leads from its global, modulo two to the 32.
@@ -62,7 +62,7 @@ fn distance_by(m: &Module, at: &IrType, index: &TypedCount) -> u32
 /// How far an index leads over elements of a type.
 fn moves(m: &Module, index: &TypedCount, t: &IrType) -> u32
     requires laid { IsLaid m.now.types.defs t.now }
-    requires small { size m.now.types.defs t.now ≤ 16777216 }
+    requires small { size m.now.types.defs t.now ≤ LARGEST }
     ensures { result ≡ index_moves index.now.ty index.now.count (size m.now.types.defs t.now) }
 {
     match (&index.ty, size_of(m, t)) {

@@ -8,9 +8,10 @@ pub mod Sets
 pub mod Distinct
 pub mod IntegerLaws
 pub mod WalkLaws
+pub mod InnerTypes
 pub mod SameTypeLaws
 mod InitLevels
-mod InitLaws
+pub mod InitLaws
 mod StructNames
 mod UseLaws
 mod Reaching
@@ -20,7 +21,7 @@ mod InParts
 mod MainLaws
 mod AlignLaws
 mod SizeLevels
-mod LaidUses
+pub mod LaidUses
 mod SizeLaws
 mod SizeUses
 mod SizePlaces

@@ -1,5 +1,5 @@
 ghost use Rattle.std.specs.Prelude.{◌≡◌, pos};
-ghost use Rattle.oi_base.specs.Words.{modulus};
+ghost use Rattle.oi_base.specs.Words.{modulus, word_of};
 ghost use Rattle.std.specs.List.{list_all};
 ghost use Rattle.module_rules.specs.Faults.{fits, fits_type, count_fits};
 
@@ -53,4 +53,11 @@ pub fn words(w: Width) -> i128
         Width::W16 => 0x1_0000,
         Width::W32 => 0x1_0000_0000,
     }
+}
+
+/// The word of a width that is equal to a number modulo two to the width.
+pub fn word_of(w: Width, number: i128) -> u32
+    ensures { result ≡ word_of (modulus w) number }
+{
+    number.rem_euclid(words(w)) as u32
 }

@@ -25,8 +25,9 @@ mod variables;
 mod walk;
 
 pub use first::{earlier, earlier_if, is_up_to};
-pub use integers::{count_fits, counts_fit, fits_type, words};
+pub use integers::{count_fits, counts_fit, fits_type, word_of, words};
 pub use laws::a_rule_of_a_module_is_decided;
+pub use measure::{align_or_least, size_up_to};
 pub use numbers::Numbers;
 pub use same_types::{same_type, same_width};
 pub use variables::global_numbers;

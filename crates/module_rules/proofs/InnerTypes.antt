@@ -4,6 +4,7 @@ use Rattle.std.specs.Prelude.{IsSome}
 use Rattle.std.specs.Option.{option_map, option_map_or, option_and_then}
 use Rattle.std.proofs.lemmas.Bool.{cases_lt}
 use Rattle.std.proofs.lemmas.Option.{slice_get-map}
+use Rattle.ir_core.specs.declared.limits.TheConstants.{LARGEST}
 use Rattle.ir_core.specs.declared.layout.Layout.{Layout}
 use Rattle.ir_core.specs.declared.ty.TypeName.{TypeName}
 use Rattle.ir_core.specs.declared.ty.TypeDef.{TypeDef}
@@ -103,8 +104,8 @@ module _ (defs : List TypeDef) where
   abbrev pub IsSmall : IrType → Type 0
   IsSmall t = IsTooLarge defs t → ⊥
 
-  pub small_size : (t : IrType) → IsSmall t → size defs t ≤ 16777216
-  small_size t small = ⊎_elim (λ big. absurd (small (t, inl refl, big))) (λ le. le) (cases_lt 16777216 (size defs t))
+  pub small_size : (t : IrType) → IsSmall t → size defs t ≤ LARGEST
+  small_size t small = ⊎_elim (λ big. absurd (small (t, inl refl, big))) (λ le. le) (cases_lt LARGEST (size defs t))
 
   directly_small : (t u : IrType) → Contains (directly_in defs t) u → IsSmall t → IsSmall u
   directly_small t u c small = λ big. small (big.0, inside big.0 big.1, big.2)
