@@ -1,0 +1,9 @@
+pub mod WithoutSites
+pub mod WorkedBodies
+pub mod Positions
+pub mod NamesOnce
+pub mod SameOperands
+pub mod MeasuredFuncs
+pub mod PathLaws
+pub mod Kept
+pub mod Made
