@@ -1,7 +1,7 @@
 -- An image of a module's codes is within the bounds of an image.
 use Rattle.std.proofs.Common.{◌≡◌, ◌≢◌, ◌⊎◌, inl, inr, ℕ, suc, ◌+◌, ◌<◌, ◌≤◌, Bool, true, false, not, cond, List, [], ◌∷◌, ◌++◌, map, filter, length, length-append, Option, Some, None, slice_get, All, AllPairs, Contains, IsTrue, refl, sym, ap, ◌∙◌, subst, arith}
 use Rattle.std.specs.Prelude.{unwrap_or, sum_by}
-use Rattle.std.specs.List.{flat_map}
+use Rattle.std.specs.List.{flat_map, AllByRecursion as Each}
 use Rattle.std.proofs.lemmas.Bool.{cases_lt}
 use Rattle.std.proofs.lemmas.List.Elements.{All-nil, All-cons, All-head, All-tail, All-append, All-filter}
 use Rattle.std.proofs.lemmas.List.Sums.{sum_by-cons, sum_by-append}
@@ -19,7 +19,7 @@ use Rattle.ir_core.specs.Proper.{IsProper, IsSymbol}
 use Rattle.ir_core.specs.Source.{main_number}
 use Rattle.ir_core.specs.Valid.{IsValid}
 use Rattle.ir_core.specs.ValidModule.{Introduced, introduced_globals, introduced_funcs, named}
-use Rattle.ir_core.proofs.Lists.{Has, Each, element, all_at, at_has, has_at, contains, has_left, has_right, has_part}
+use Rattle.ir_core.proofs.Lists.{Has, element, all_at, at_has, has_at, contains, has_left, has_right, has_part}
 use Rattle.module_rules.proofs.Earliest.{up_to_itself, up_to_trans, up_to_total}
 use Rattle.elf_object.specs.declared.image.TheConstants.{LARGEST_TEXT, LARGEST_TABLES}
 use Rattle.elf_object.specs.declared.symbol.Symbol.{Symbol}

@@ -8,12 +8,12 @@ use Rattle.std.proofs.lemmas.List.{get_or-append-add, get_or_append_left, get_or
 use Rattle.std.proofs.lemmas.List.Elements.{All-head, All-tail}
 use Rattle.std.proofs.lemmas.Option.{slice_get_within, get_or_from_slice_get}
 use Rattle.ir_core.specs.Formed.{IsAlign}
-use Rattle.ir_core.specs.Memory.{Byte, Unset, PoisonByte, Octet, PartOf, Block, Memory}
+use Rattle.ir_core.specs.Memory.{Byte, Unset, PoisonByte, Octet, PartOf, Block, Memory, PointsWithin}
 use Rattle.ir_core.proofs.Lists.{Has, has_in}
 use Rattle.rv_isa.specs.Memory.{bytes_at_load, data_start}
 use Rattle.rv_select.specs.Linked.{Link}
-use Rattle.rv_select.specs.Stands.{Object, IsByteOf, BytesMade, DataIsLaid}
-use Rattle.image_layout.specs.Addresses.{places, global_address}
+use Rattle.rv_select.specs.Stands.{Object, IsByteOf, DataIsLaid}
+use Rattle.image_layout.specs.Addresses.{places, end_of, global_address}
 use Rattle.image_layout.specs.DataBytes.{byte_in, bytes_from}
 
 -- the next multiple of an alignment is one, and not below
@@ -36,11 +36,6 @@ is_next n a h = by (has_in (1 ∷ 2 ∷ 4 ∷ 8 ∷ 16 ∷ []) a h)
 abbrev pub AreAligned : Memory → Type 0
 AreAligned bs = All (λ (b : Block). IsAlign b.align) bs
 
--- where the last of blocks ends
-abbrev pub end_of : ℕ → Memory → ℕ
-end_of from [] = from
-end_of from (b ∷ bs) = end_of (next_multiple_of from b.align + length b.bytes) bs
-
 no_block : {A : Type 0} {x : A} → None ≡ Some x → ⊥
 no_block e = cc
 
@@ -58,7 +53,7 @@ place_of from (d ∷ bs) h zero b e =
     (next_multiple_of from d.align, refl, subst (λ (x : Block). (data_start + next_multiple_of from d.align) % x.align ≡ 0) (some_same e) (is_next from d.align (All-head block_aligned d bs h)).some)
 place_of from (d ∷ bs) h (suc g) b e = place_of (next_multiple_of from d.align + length d.bytes) bs (All-tail block_aligned d bs h) g b e
 
-end_up : (from : ℕ) (bs : Memory) → AreAligned bs → from ≤ end_of from bs
+pub end_up : (from : ℕ) (bs : Memory) → AreAligned bs → from ≤ end_of from bs
 end_up from [] h = omega arith
 end_up from (d ∷ bs) h =
     let up = (is_next from d.align (All-head block_aligned d bs h)).up in
@@ -146,7 +141,7 @@ module _ (l : Link) where
 
 -- ---- the data of an object
 
-module _ (o : Object) (globals : Memory) (aligned : AreAligned globals) (link : o.link.global_at ≡ global_address globals) (bytes : o.segments.data_bytes ≡ bytes_from o.link 0 globals) (text : length o.segments.text ≤ 4194304) (made : BytesMade globals) where
+module _ (o : Object) (globals : Memory) (aligned : AreAligned globals) (link : o.link.global_at ≡ global_address globals) (bytes : o.segments.data_bytes ≡ bytes_from o.link 0 globals) (text : length o.segments.text ≤ 4194304) (pointers : PointsWithin globals) where
   abbrev data_size : ℕ
   data_size = length o.segments.data_bytes
 
@@ -203,7 +198,7 @@ module _ (o : Object) (globals : Memory) (aligned : AreAligned globals) (link : 
         };
     inside = λ g b e. let a = at g b e in let address = a.address in let within = a.inside in (omega (arith, address), omega (arith, address, within));
     apart = λ g k b c e f differ. by_order g k b c e f differ (cases_lt g k);
-    made = made;
+    pointers = pointers;
   }
     where
       by_order : (g k : ℕ) (b c : Block) → slice_get globals g ≡ Some b → slice_get globals k ≡ Some c → g ≢ k → (g < k) ⊎ (k ≤ g) → (o.link.global_at g + length b.bytes ≤ o.link.global_at k) ⊎ (o.link.global_at k + length c.bytes ≤ o.link.global_at g)

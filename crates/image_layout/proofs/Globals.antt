@@ -1,11 +1,9 @@
--- The memory that a run of a valid module begins with: how its blocks are aligned, how many bytes they have, and of what their
--- pointers are.
-use Rattle.std.proofs.Common.{◌≡◌, ◌⊎◌, inl, inr, ℕ, zero, suc, ◌+◌, ◌<◌, ◌≤◌, max, List, [], ◌∷◌, ◌++◌, map, take, fold, length, Option, Some, None, slice_get, Contains, IsSome, refl, sym, ap, ap₂, ◌∙◌, subst, arith}
+-- The memory that a run of a valid module begins with: how its blocks are aligned, and how many bytes they have.
+use Rattle.std.proofs.Common.{◌≡◌, ◌⊎◌, inl, inr, ℕ, zero, suc, ◌+◌, ◌<◌, ◌≤◌, max, List, [], ◌∷◌, ◌++◌, map, take, fold, length, Option, Some, None, Contains, IsSome, refl, sym, ap, ap₂, ◌∙◌, subst, arith}
 use Rattle.std.specs.Prelude.{unwrap_or}
-use Rattle.std.specs.List.{flat_map}
+use Rattle.std.specs.List.{flat_map, AllByRecursion as Each}
 use Rattle.std.specs.Int.{next_multiple_of}
 use Rattle.std.proofs.lemmas.Bool.{cases_lt}
-use Rattle.std.proofs.lemmas.List.{length-map}
 use Rattle.std.proofs.lemmas.List.Elements.{All-from_recursion}
 use Rattle.ir_core.specs.declared.layout.Layout.{Layout}
 use Rattle.ir_core.specs.declared.ty.TypeDef.{TypeDef}
@@ -15,39 +13,25 @@ use Rattle.ir_core.specs.declared.module.Module.{Module}
 use Rattle.ir_core.specs.declared.limits.TheConstants.{MOST_DATA}
 use Rattle.ir_core.specs.Constants.{aligned_as, initial_bytes, global_block, global_memory}
 use Rattle.ir_core.specs.Formed.{IsAlign}
-use Rattle.ir_core.specs.Memory.{Byte, Unset, PoisonByte, Octet, PartOf, Block}
+use Rattle.ir_core.specs.Memory.{Block}
 use Rattle.ir_core.specs.Parts.{const_types}
 use Rattle.ir_core.specs.Sizes.{empty, layout, size}
 use Rattle.ir_core.specs.Valid.{IsValid}
 use Rattle.ir_core.specs.ValidConsts.{HasType}
 use Rattle.ir_core.specs.ValidModule.{global_align, data_end}
 use Rattle.ir_core.specs.ValidTypes.{value_use, value_uses, type_uses, func_uses}
-use Rattle.ir_core.proofs.Lists.{Has, Each, each_from, contains, has_in, has_at, has_left, has_right, has_part, has_mapped, map_source, element}
-use Rattle.ir_safety.proofs.Decided.{Decided, so, always, both, is_less, is_at_most, is_align}
+use Rattle.ir_core.proofs.Lists.{Has, each_from, contains, has_in, has_left, has_right, has_part, has_mapped, map_source, element}
+use Rattle.ir_safety.proofs.Decided.{so, is_at_most, is_align}
 use Rattle.ir_safety.proofs.Safe.{NotFalse, true_too, and_so, in_turn}
 use Rattle.ir_safety.proofs.TypeSizes.{aligned_well}
-use Rattle.rv_select.specs.Stands.{IsMadeByte, BytesMade}
-use Rattle.image_layout.proofs.DataLaid.{AreAligned, end_of}
+use Rattle.image_layout.specs.Addresses.{end_of}
+use Rattle.image_layout.proofs.DataLaid.{AreAligned}
 use Rattle.image_layout.proofs.LaidTypes.{struct_named, use_laid}
-use Rattle.image_layout.proofs.InitialBytes.{OkType, init_length, init_made}
+use Rattle.image_layout.proofs.InitialBytes.{OkType, init_length}
 
 some_of : {A : Type 0} (o : Option A) → IsSome o → (x : A) × (o ≡ Some x)
 some_of None h = absurd cc
 some_of (Some x) h = (x, refl)
-
-made_decided : (n : ℕ) (c : Byte) → Decided (IsMadeByte n c)
-made_decided n Unset = always
-made_decided n PoisonByte = always
-made_decided n (Octet k) = always
-made_decided n (PartOf b o k) = both (is_less b n) (is_less o 4294967296)
-
-each_at : {A : Type 0} (P : A → Type 0) (xs : List A) (k : ℕ) (x : A) → Each P xs → slice_get xs k ≡ Some x → P x
-each_at P [] k x h e = absurd cc
-each_at P (y ∷ ys) zero x h e = subst P (some_same e) h.0
-  where
-    some_same : Some y ≡ Some x → y ≡ x
-    some_same e = cc
-each_at P (y ∷ ys) (suc k) x h e = each_at P ys k x h.1 e
 
 each_not_false : {A : Type 0} (P : A → Type 0) (xs : List A) → ((x : A) → Has xs x → NotFalse (P x)) → NotFalse (Each P xs)
 each_not_false P [] h = true_too tt
@@ -103,9 +87,6 @@ module _ (m : Module) (valid : IsValid m) where
         let high = so (is_at_most laid.0.size n) (in_turn whole (λ e. omega (arith, e))) in
         omega (arith, same, low, high)
 
-    pub bytes_made : (k : ℕ) (c : Byte) → slice_get (initial_bytes m g.ty g.init) k ≡ Some c → IsMadeByte (length m.globals) c
-    bytes_made k c e = so (made_decided (length m.globals) c) (in_turn typed (λ h. each_at (IsMadeByte (length m.globals)) (initial_bytes m g.ty g.init) k c (init_made m g.ty g.init h) e))
-
   -- ---- all globals
 
   pub are_aligned : AreAligned (global_memory m)
@@ -113,12 +94,6 @@ module _ (m : Module) (valid : IsValid m) where
     where
       of_block : (b : Block) → Has (global_memory m) b → IsAlign b.align
       of_block b h = let g = map_source (global_block m) m.globals b h in subst (λ (x : Block). IsAlign x.align) g.2 (aligned g.0 g.1)
-
-  pub are_made : BytesMade (global_memory m)
-  are_made i k b c at there =
-      let g = map_source (global_block m) m.globals b (has_at (global_memory m) i b at) in
-      let count : length m.globals ≡ length (global_memory m) = sym (length-map m.globals (global_block m)) in
-      subst (λ (n : ℕ). IsMadeByte n c) count (bytes_made g.0 g.1 k c (ap (λ (x : Block). slice_get x.bytes k) g.2 ∙ there))
 
   -- an alignment that is stated is no less than 1
   stated_same : (g : GlobalVar) → IsAlign (aligned_as defs g.align g.ty) → aligned_as defs g.align g.ty ≡ global_align defs g

@@ -1,15 +1,14 @@
--- The bytes of an initialiser that has a type are as many as that has, and the parts of pointers in them are of globals.
-use Rattle.std.proofs.Common.{◌≡◌, ◌⊎◌, inl, inr, ℕ, zero, suc, ◌+◌, ◌-◌, ◌*◌, ◌/◌, ◌<◌, ◌≤◌, ◌==◌, refl, sym, ap, ◌∙◌, subst, arith, List, [], ◌∷◌, ◌++◌, map, replicate, length, length-append, Option, Some, None}
+-- The bytes of an initialiser that has a type are as many as that has.
+use Rattle.std.proofs.Common.{◌≡◌, ◌⊎◌, inl, inr, ℕ, zero, suc, ◌+◌, ◌-◌, ◌*◌, ◌/◌, ◌≤◌, refl, sym, ap, ◌∙◌, subst, arith, List, [], ◌∷◌, ◌++◌, map, replicate, length, length-append, Option, Some, None}
 use mathlib.Core.Former.{Count, none_left, one_more, arity, list, this}
 use Rattle.std.specs.Prelude.{unwrap_or}
-use Rattle.std.specs.List.{position_or_len}
+use Rattle.std.specs.List.{AllByRecursion as Each}
 use Rattle.std.specs.Int.{next_multiple_of}
 use Rattle.std.specs.Option.{option_map, option_map_or, option_and_then}
 use Rattle.std.proofs.Math.Nat.{suc-mul}
 use Rattle.std.proofs.lemmas.List.{length-map, length-replicate}
 use Rattle.oi_base.specs.declared.words.Width.{Width}
 use Rattle.oi_base.specs.declared.words.Width.TheVariants.{W1, W8, W16, W32}
-use Rattle.ir_core.specs.declared.flat.Scalar.{Scalar}
 use Rattle.ir_core.specs.declared.flat.Scalar.TheVariants as scalar
 use Rattle.ir_core.specs.declared.layout.Layout.{Layout}
 use Rattle.ir_core.specs.declared.ty.TypeName.{TypeName}
@@ -19,23 +18,20 @@ use Rattle.ir_core.specs.declared.ty.IrType.{IrType, Void, Int, Ptr, Array', Str
 use Rattle.ir_core.specs.declared.ty.IrType.TheOpen.{IrType-F}
 use Rattle.ir_core.specs.declared.ty.IrType.TheVariants.{outs-Int, outs-Ptr, rolls-Array, rolls-Struct}
 use Rattle.ir_core.specs.declared.ty.IrType.TheViews.{roll-IrType, roll-out-IrType}
-use Rattle.ir_core.specs.declared.module.SymId.{SymId}
-use Rattle.ir_core.specs.declared.module.GlobalVar.{GlobalVar}
 use Rattle.ir_core.specs.declared.module.Module.{Module}
 use Rattle.ir_core.specs.declared.constant.Const.{Const, Row_of-TypedConst, end_of-TypedConst, more_of-TypedConst}
 use Rattle.ir_core.specs.declared.constant.Const as consts
-use Rattle.ir_core.specs.Constants.{scalar_of, is_global, global_number, gap, filled_up, initial_bytes, element_bytes, field_bytes}
+use Rattle.ir_core.specs.Constants.{scalar_of, global_number, gap, filled_up, initial_bytes, element_bytes, field_bytes}
 use Rattle.ir_core.specs.Formed.{IsAlign}
 use Rattle.ir_core.specs.Memory.{At, Byte, Unset, PoisonByte, Octet, scalar_size, octets, stored}
 use Rattle.ir_core.specs.Parts.{const_types, consts_types}
-use Rattle.ir_core.specs.Sizes.{word_layout, array_of, empty, after, rounded, placed, definition, name_layout, layout, size, align, name_of, resolved}
-use Rattle.ir_core.specs.ValidConsts.{plain, IsVariable, HasType, AreItems, AreFields}
+use Rattle.ir_core.specs.Sizes.{word_layout, array_of, empty, after, rounded, placed, definition, name_layout, layout, size, name_of, resolved}
+use Rattle.ir_core.specs.ValidConsts.{plain, HasType, AreItems, AreFields}
 use Rattle.ir_core.specs.ValidTypes.{StandsForStruct}
-use Rattle.ir_core.proofs.Fields.{named_layout}
-use Rattle.ir_core.proofs.Layouts.{at_array, at_struct}
-use Rattle.ir_core.proofs.Lists.{Has, Each, each_left, each_right, has_in, place_within}
+use Rattle.ir_core.proofs.Fields.{resolved_layout, struct_layout}
+use Rattle.ir_core.proofs.Layouts.{at_array}
+use Rattle.ir_core.proofs.Lists.{each_left, each_right}
 use Rattle.ir_safety.proofs.TypeSizes.{aligned_well}
-use Rattle.rv_select.specs.Stands.{IsMadeByte}
 use Rattle.image_layout.proofs.DataLaid.{is_next}
 
 -- how many there are in a row
@@ -56,72 +52,15 @@ no_layout e = cc
 same_layout : {x y : Layout} → Some x ≡ Some y → x ≡ y
 same_layout e = cc
 
-both : {A : Type 0} (P : A → Type 0) (xs ys : List A) → Each P xs → Each P ys → Each P (xs ++ ys)
-both P [] ys h k = k
-both P (x ∷ xs) ys h k = (h.0, both P xs ys h.1 k)
-
 -- ---- bytes of scalars
 
 octets_length : (n a : ℕ) → length (octets n a) ≡ n
 octets_length zero a = refl
 octets_length (suc n) a = ap suc (octets_length n (a / 256))
 
-octets_made : (count n a : ℕ) → Each (IsMadeByte count) (octets n a)
-octets_made count zero a = tt
-octets_made count (suc n) a = (tt, octets_made count n (a / 256))
-
-copies_made : (count n : ℕ) (b : Byte) → IsMadeByte count b → Each (IsMadeByte count) (replicate n b)
-copies_made count zero b h = tt
-copies_made count (suc n) b h = (h, copies_made count n b h)
-
-numbers_made : (count : ℕ) (bs : List ℕ) → Each (IsMadeByte count) (map Octet bs)
-numbers_made count [] = tt
-numbers_made count (b ∷ bs) = (tt, numbers_made count bs)
-
-pointer_made : (count : ℕ) (s : Scalar) (b o : ℕ) → b < count → o < 4294967296 → Each (IsMadeByte count) (stored s (At b o))
-pointer_made count s b o h k = ((h, k), ((h, k), ((h, k), ((h, k), tt))))
-
 module _ (m : Module) where
   abbrev defs : List TypeDef
   defs = m.types.defs
-
-  abbrev count : ℕ
-  count = length m.globals
-
-  -- ---- parts of pointers
-
-  variable_number : (s : SymId) → IsVariable m s → global_number m s < count
-  variable_number s v = among m.globals (has_in m.globals v.0 v.1) v.2
-    where
-      among : (gs : List GlobalVar) → Has gs v.0 → v.0.name ≡ s → position_or_len (is_global s) gs < length gs
-      among gs h e = subst (λ (k : ℕ). position_or_len (λ (g : GlobalVar). g.name.0 == k) gs < length gs) (ap (λ (x : SymId). x.0) e) (place_within (λ (g : GlobalVar). g.name.0) gs v.0 h)
-
-  mutual
-    pub init_made : (t : IrType) (c : Const) → HasType m c t → Each (IsMadeByte count) (initial_bytes m t c)
-    init_made t (consts.Int n) h = octets_made count (scalar_size (scalar_of t)) _
-    init_made t (consts.Bool b) h = octets_made count (scalar_size (scalar_of t)) _
-    init_made t consts.Null h = octets_made count (scalar_size (scalar_of t)) 0
-    init_made t consts.Undef h = copies_made count (size defs t) (Octet 0) tt
-    init_made t consts.Poison h = copies_made count (size defs t) PoisonByte tt
-    init_made t consts.Zero h = copies_made count (size defs t) (Octet 0) tt
-    init_made t (consts.Bytes bs) h = numbers_made count bs
-    init_made t (consts.Address s) h = pointer_made count (scalar_of t) (global_number m s) 0 (variable_number s h.1) (omega arith)
-    init_made t (consts.Gep source s is) h = pointer_made count (scalar_of t) (global_number m s) _ (variable_number s h.1) (omega arith)
-    init_made t (consts.Array' each items) h = items_made items h.0 h.2
-    init_made t (consts.Struct' each values) h = both (IsMadeByte count) (field_bytes m 0 values) (gap (size defs t - length (field_bytes m 0 values))) (fields_made 0 values h.0 h.2) (copies_made count (size defs t - length (field_bytes m 0 values)) Unset tt)
-
-    items_made : {n : _} (row : Row_of-TypedConst n) (item : IrType) → AreItems m row item → Each (IsMadeByte count) (element_bytes m row)
-    items_made end_of-TypedConst item h = tt
-    items_made (more_of-TypedConst t c cs) item h = both (IsMadeByte count) (initial_bytes m t c) (element_bytes m cs) (init_made t c h.1) (items_made cs item h.2)
-
-    fields_made : (from : ℕ) {n : _} (row : Row_of-TypedConst n) (us : List IrType) → AreFields m row us → Each (IsMadeByte count) (field_bytes m from row)
-    fields_made from end_of-TypedConst us h = tt
-    fields_made from (more_of-TypedConst t c cs) [] h = absurd h
-    fields_made from (more_of-TypedConst t c cs) (u ∷ us) h =
-        let at = next_multiple_of from (align defs t) in
-        both (IsMadeByte count) (gap (at - from) ++ initial_bytes m t c) (field_bytes m (at + size defs t) cs)
-        (both (IsMadeByte count) (gap (at - from)) (initial_bytes m t c) (copies_made count (at - from) Unset tt) (init_made t c h.1))
-        (fields_made (at + size defs t) cs us h.2)
 
   -- ---- layouts
 
@@ -137,19 +76,6 @@ module _ (m : Module) where
   itself zero t e = refl
   itself (suc n) t e = ap (λ (o : Option TypeName). option_map_or (λ (d : TypeDef). resolved n defs d.ty) (option_and_then (definition defs) o) t) e
 
-  resolved_laid : (n : ℕ) (t : IrType) (l : Layout) → layout defs t ≡ Some l → layout defs (resolved n defs t) ≡ Some l
-  resolved_laid zero t l e = e
-  resolved_laid (suc n) Void l e = e
-  resolved_laid (suc n) (Int w) l e = e
-  resolved_laid (suc n) Ptr l e = e
-  resolved_laid (suc n) (Array' k a ts) l e = e
-  resolved_laid (suc n) (Struct' k ts) l e = e
-  resolved_laid (suc n) (Named x) l e = by (definition defs x) refl (λ d f. resolved_laid n d.ty l f)
-    where
-      by : (o : Option TypeDef) → definition defs x ≡ o → ((d : TypeDef) → layout defs d.ty ≡ Some l → layout defs (resolved n defs d.ty) ≡ Some l) → layout defs (option_map_or (λ (d : TypeDef). resolved n defs d.ty) o (Named x)) ≡ Some l
-      by None s below = e
-      by (Some d) s below = below d (named_layout defs x d l s e)
-
   array_layout : (n : ℕ) (item : IrType) (l : Layout) → layout defs (types.Array n item) ≡ Some l → (w : Layout) × (layout defs item ≡ Some w) × (array_of n w ≡ l)
   unfolding layout
   array_layout n item l e = by (layout defs item) refl (sym (at_array (name_layout (length defs) defs) n item) ∙ e)
@@ -157,14 +83,6 @@ module _ (m : Module) where
       by : (o : Option Layout) → layout defs item ≡ o → option_map (array_of n) o ≡ Some l → (w : Layout) × (layout defs item ≡ Some w) × (array_of n w ≡ l)
       by None s f = absurd (no_layout f)
       by (Some w) s f = (w, s, same_layout f)
-
-  struct_layout : (ts : List IrType) (l : Layout) → layout defs (types.Struct ts) ≡ Some l → (r : Layout) × (placed empty (map (layout defs) ts) ≡ Some r) × (rounded r ≡ l)
-  unfolding layout
-  struct_layout ts l e = by (placed empty (map (layout defs) ts)) refl (sym (at_struct (name_layout (length defs) defs) ts) ∙ e)
-    where
-      by : (o : Option Layout) → placed empty (map (layout defs) ts) ≡ o → option_map rounded o ≡ Some l → (r : Layout) × (placed empty (map (layout defs) ts) ≡ Some r) × (rounded r ≡ l)
-      by None s f = absurd (no_layout f)
-      by (Some r) s f = (r, s, same_layout f)
 
   -- ---- sizes
 
@@ -228,12 +146,13 @@ module _ (m : Module) where
   array_of_level : (t : IrType) (n : ℕ) (item : IrType) (l : Layout) → out-IrType (plain defs t) ≡ IrType-F.Array n item → layout defs t ≡ Some l → (w : Layout) × (layout defs item ≡ Some w) × (array_of n w ≡ l)
   array_of_level t n item l e f =
       let is : plain defs t ≡ types.Array n item = sym (roll-out-IrType (plain defs t)) ∙ ap roll-IrType e ∙ rolls-Array n item in
-      array_layout n item l (ap (layout defs) (sym is) ∙ resolved_laid (length defs) t l f)
+      array_layout n item l (ap (layout defs) (sym is) ∙ resolved_layout (length defs) defs t l f)
 
   struct_of_level : (t : IrType) (us : List IrType) (l : Layout) → out-IrType (plain defs t) ≡ IrType-F.Struct us → layout defs t ≡ Some l → (r : Layout) × (placed empty (map (layout defs) us) ≡ Some r) × (rounded r ≡ l)
   struct_of_level t us l e f =
       let is : plain defs t ≡ types.Struct us = sym (roll-out-IrType (plain defs t)) ∙ ap roll-IrType e ∙ rolls-Struct us in
-      struct_layout us l (ap (layout defs) (sym is) ∙ resolved_laid (length defs) t l f)
+      let r = struct_layout defs us l (ap (layout defs) (sym is) ∙ resolved_layout (length defs) defs t l f) in
+      (r.0, r.1, sym r.2)
 
   byte_layout : (w : Layout) → layout defs (Int W8) ≡ Some w → w.size ≡ 1
   unfolding layout

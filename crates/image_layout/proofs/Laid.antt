@@ -11,12 +11,13 @@ use Rattle.rv_isa.specs.Laws.{Holds}
 use Rattle.rv_select.specs.Linked.{linked, stub}
 use Rattle.rv_select.specs.Code.{code}
 use Rattle.rv_select.specs.Stands.{DataIsLaid, CodeIsLaid, IsLaid}
+use Rattle.ir_safety.proofs.GlobalPointers.{globals_within}
 use Rattle.image_layout.specs.Addresses.{Codes, link_of}
 use Rattle.image_layout.specs.DataBytes.{bytes_from}
 use Rattle.image_layout.specs.Image.{image, text_size, object}
 use Rattle.image_layout.specs.Codes.{AreCodes, IsProgramOf}
 use Rattle.image_layout.proofs.DataLaid.{data_length, data_laid}
-use Rattle.image_layout.proofs.Globals.{are_aligned, are_made, data_fits}
+use Rattle.image_layout.proofs.Globals.{are_aligned, data_fits}
 use Rattle.image_layout.proofs.TextLaid.{text_length, stub_holds, code_at_entry}
 
 module _ (m : Module) (valid : IsValid m) (codes : Codes) (are : AreCodes m codes) (fits : text_size m codes ≤ 4194304) (p : Program) (of : IsProgramOf m codes p) where
@@ -42,7 +43,7 @@ module _ (m : Module) (valid : IsValid m) (codes : Codes) (are : AreCodes m code
         omega (arith, n, same, most));
     start = subst (λ (main : ℕ). Holds (object m codes).segments text_start (linked (link_of m codes) text_start (stub main))) (sym of.main) (stub_holds m codes of.items fits);
     codes = laid_code;
-    globals = subst (DataIsLaid (object m codes)) (sym of.globals) (data_laid (object m codes) (global_memory m) (are_aligned m valid) refl data_is text_short (are_made m valid));
+    globals = subst (DataIsLaid (object m codes)) (sym of.globals) (data_laid (object m codes) (global_memory m) (are_aligned m valid) refl data_is text_short (globals_within m valid));
   }
 
 pub laid : (m : Module) → IsValid m → (codes : Codes) → AreCodes m codes → text_size m codes ≤ 4194304 → (p : Program) → IsProgramOf m codes p → IsLaid (object m codes) p

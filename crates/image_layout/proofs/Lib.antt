@@ -5,3 +5,8 @@ pub mod InitialBytes
 pub mod Laid
 pub mod LaidTypes
 pub mod TextLaid
+pub mod InitialParts
+pub mod WrittenBytes
+pub mod GlobalBytes
+pub mod StructBytes
+pub mod SymbolLists

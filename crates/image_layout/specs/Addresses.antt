@@ -33,5 +33,21 @@ places from (b ∷ bs) = let at = next_multiple_of from b.align in at ∷ places
 abbrev pub global_address : Memory → ℕ → ℕ
 global_address globals g = data_start + unwrap_or (slice_get (places 0 globals) g) 0
 
+-- where the last of such blocks ends
+abbrev pub end_of : ℕ → Memory → ℕ
+end_of from [] = from
+end_of from (b ∷ bs) = end_of (next_multiple_of from b.align + length b.bytes) bs
+
 abbrev pub link_of : Module → Codes → Link
 link_of m codes = record { entry = entry m codes; global_at = global_address (global_memory m) }
+
+-- addresses in lists: where each function's code begins, where each global begins in bytes from the data's start, and the names of
+-- the globals
+pub record Located : Type 0 where
+  pub entries : List ℕ
+  pub places : List ℕ
+  pub names : List ℕ
+
+-- the link by them
+abbrev pub link_in : Located → Link
+link_in a = record { entry = λ f. unwrap_or (slice_get a.entries f) 0; global_at = λ g. data_start + unwrap_or (slice_get a.places g) 0 }

@@ -13,7 +13,8 @@ use Rattle.rv_select.specs.declared.item.Item.{Item}
 use Rattle.rv_select.specs.declared.item.Item.TheVariants.{Word, CallHigh, CallLow, AddressHigh, AddressLow}
 use Rattle.rv_select.specs.Pending.{IsItem}
 use Rattle.rv_select.specs.Code.{code, ArePaired}
-use Rattle.image_layout.specs.Addresses.{Codes}
+use Rattle.rv_select.specs.Linked.{Link}
+use Rattle.image_layout.specs.Addresses.{Codes, entry, global_address}
 
 -- the function has a code
 abbrev pub HasCode : Codes → ℕ → Type 0
@@ -35,6 +36,11 @@ pub record AreCodes (m : Module) (codes : Codes) : Type 0 where
   pub main : HasCode codes (main_number m)
   pub known : All (λ (c : FuncId × List Item). All (IsKnown m codes) c.1) codes
   pub paired : All (λ (c : FuncId × List Item). ArePaired c.1) codes
+
+-- the link gives the address of each function that has a code, and of each global
+pub record Links (m : Module) (codes : Codes) (l : Link) : Type 0 where
+  pub entries : (f : ℕ) → HasCode codes f → l.entry f ≡ entry m codes f
+  pub globals : l.global_at ≡ global_address (global_memory m)
 
 -- a function's body has this code
 pub record HasBody (codes : Codes) (f : ℕ) (b : FlatBody) : Type 0 where

@@ -15,9 +15,13 @@ use Rattle.image_layout.specs.Addresses.{Codes, link_of}
 use Rattle.image_layout.specs.DataBytes.{bytes_from}
 use Rattle.image_layout.specs.Symbols.{function_symbols, global_symbols, local_first}
 
+-- the items of a function's code
+abbrev pub items_of : FuncId × List Item → List Item
+items_of c = c.1
+
 -- the items of the text: the stub, and the codes one after another
 abbrev pub text_items : Module → Codes → List Item
-text_items m codes = stub (main_number m) ++ flat_map (λ (c : FuncId × List Item). c.1) codes
+text_items m codes = stub (main_number m) ++ flat_map items_of codes
 
 -- the size of the text in bytes
 abbrev pub text_size : Module → Codes → ℕ

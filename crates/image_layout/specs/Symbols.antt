@@ -1,5 +1,5 @@
 -- The symbols of an object: a function's has its address and the length of its code, a global's its address and its size.
-use Rattle.std.specs.Prelude.{ℕ, ◌+◌, ◌*◌, not, List, [], ◌∷◌, ◌++◌, length, filter, Option, Some, None, slice_get}
+use Rattle.std.specs.Prelude.{ℕ, ◌+◌, ◌*◌, Bool, true, false, not, if◌then◌else◌, List, [], ◌∷◌, ◌++◌, length, filter, Option, Some, None, slice_get}
 use Rattle.std.specs.List.{flat_map}
 use Rattle.oi_base.specs.declared.ids.FuncId.{FuncId}
 use Rattle.ir_core.specs.declared.func.Func.{Func}
@@ -28,6 +28,10 @@ global_symbols m l n [] = []
 global_symbols m l n (g ∷ gs) =
     record { name = symbol_text m g.name; value = l.global_at n; size = length (initial_bytes m g.ty g.init); kind = Object; global = not g.internal } ∷ global_symbols m l (n + 1) gs
 
+-- the global ones of symbols, or the local ones
+abbrev pub with_linkage : Bool → List Symbol → List Symbol
+with_linkage global symbols = filter (λ s. if global then s.global else not s.global) symbols
+
 -- local symbols before global ones, each kind in its order
 abbrev pub local_first : List Symbol → List Symbol
-local_first symbols = filter (λ s. not s.global) symbols ++ filter (λ s. s.global) symbols
+local_first symbols = with_linkage false symbols ++ with_linkage true symbols

@@ -1,6 +1,11 @@
 //! The image of a module's codes: the text with all addresses filled in, the data and the symbols.
 #![tactic(auto)]
 
+mod addresses;
+mod faults;
 mod laws;
+mod symbols;
+mod text;
 
+pub use faults::ImageFault;
 pub use laws::{an_image_is_laid, an_image_is_within_bounds};

@@ -1,7 +1,7 @@
 -- What the tests of forms say of what passes them, and lists of which nothing is left.
 use Rattle.std.proofs.Common.{◌≡◌, ℕ, zero, suc, ◌+◌, ◌-◌, ◌≤◌, ◌<◌, nat_eq, nat_lt, Bool, true, false, not, cond, ◌&&◌, List, [], ◌∷◌, ◌++◌, drop, length, length-drop, Option, Some, None, All, Contains, slice_index_or, refl, sym, ap, ◌∙◌, arith}
 use Rattle.std.specs.Prelude.{IsSome, position}
-use Rattle.std.specs.List.{flat_map, position_or_len}
+use Rattle.std.specs.List.{flat_map, position_or_len, AllByRecursion as Each}
 use Rattle.std.proofs.lemmas.Bool.Decides.{nat_tests}
 use Rattle.std.proofs.lemmas.List.Elements.{All-head, All-tail}
 use Rattle.oi_base.specs.declared.ids.Place.{Place}
@@ -12,7 +12,6 @@ use Rattle.ir_core.specs.declared.op.Op.{Op}
 use Rattle.ir_core.specs.declared.op.Op.TheVariants as ops
 use Rattle.ir_core.specs.declared.func.Instr.{Instr}
 use Rattle.ir_core.specs.Proper.{HasItsResult}
-use Rattle.ir_core.proofs.Lists.{Each}
 use Rattle.module_rules.specs.Faults.{place_if}
 use Rattle.optinline.specs.Meaning.{bin_op}
 use Rattle.optinline.specs.MainBody.{sum_of}

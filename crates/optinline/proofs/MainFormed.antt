@@ -1,6 +1,6 @@
 -- The flat body of a `main` whose registers are defined before they are used is formed.
 use Rattle.std.proofs.Common.{◌≡◌, ◌≢◌, ◌⊎◌, inl, inr, ℕ, zero, suc, ◌+◌, ◌<◌, ◌≤◌, refl, sym, ap, ◌∙◌, subst, arith, List, [], ◌∷◌, ◌++◌, length, Option, Some, None, All, AllPairs, Contains, slice_get}
-use Rattle.std.specs.List.{filter_map, flat_map}
+use Rattle.std.specs.List.{filter_map, flat_map, AllByRecursion as Each}
 use Rattle.std.proofs.lemmas.Bool.{cases_lt}
 use Rattle.std.proofs.lemmas.Option.{slice_get_within}
 use Rattle.std.proofs.lemmas.List.{append-nil}
@@ -16,7 +16,7 @@ use Rattle.ir_core.specs.declared.flat.FlatBlock.{FlatBlock}
 use Rattle.ir_core.specs.declared.flat.FlatBody.{FlatBody}
 use Rattle.ir_core.specs.Formed.{FuncType, HasType, IsTyped, IsBlock, IsEdge, IsPath, IsWritten, ComesIn, ComesFirst, DefinedFirst, IsParamOrWritten, written_by, used_by, used_at_end, targets, writes, all_writes, uses, all_uses, IsEndTyped, IsFormedBody}
 use Rattle.ir_core.specs.WellFormed.{IsWellFormed}
-use Rattle.ir_core.proofs.Lists.{Has, Each, contains, has_in, each_left, each_right}
+use Rattle.ir_core.proofs.Lists.{Has, contains, has_in, each_left, each_right}
 use Rattle.optinline.specs.declared.body.TheConstants.{MOST_OPS}
 use Rattle.optinline.specs.declared.body.Value.{Value}
 use Rattle.optinline.specs.declared.body.Value.TheVariants.{Reg, Word}

@@ -1,7 +1,7 @@
 -- The plain body of a `main` of which all is built is one of sums and differences.
 use Rattle.std.proofs.Common.{◌≡◌, ◌⊎◌, inl, inr, ℕ, zero, suc, ◌+◌, ◌<◌, ◌≤◌, Bool, true, false, cond, not, ◌&&◌, List, [], ◌∷◌, ◌++◌, map, length, Option, Some, None, All, slice_get, pos, negsuc, refl, sym, ap, ap₂, ◌∙◌, subst, arith}
 use Rattle.std.specs.Prelude.{unwrap_or}
-use Rattle.std.specs.List.{flat_map, filter_map, cons_option, position_or_len}
+use Rattle.std.specs.List.{flat_map, filter_map, cons_option, position_or_len, AllByRecursion as Each}
 use Rattle.std.specs.Option.{option_map}
 use Rattle.std.proofs.lemmas.List.{append-nil}
 use Rattle.std.proofs.lemmas.List.Elements.{All-nil, All-cons}
@@ -43,7 +43,6 @@ use Rattle.ir_core.specs.Plain.{Numbers, other_operand, other_instr, other_end, 
 use Rattle.ir_core.specs.Proper.{IsProper}
 use Rattle.ir_core.specs.Source.{is_main, main_number}
 use Rattle.ir_core.specs.Valid.{IsValid}
-use Rattle.ir_core.proofs.Lists.{Each}
 use Rattle.ir_safety.specs.PlainTypes.{plain_types, plain_funcs, HasFewOwn, HasFewNumbers}
 use Rattle.ir_safety.proofs.FormedBodies.{plain_is_formed}
 use Rattle.module_rules.proofs.WalkLaws.{word_decides}

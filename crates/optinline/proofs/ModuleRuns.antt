@@ -1,6 +1,6 @@
 -- A valid module of which all is built runs as its flat body.
 use Rattle.std.proofs.Common.{◌≡◌, ℕ, zero, suc, ◌+◌, ◌≤◌, length, Bool, false, cond, not, nat_eq, if◌then◌else◌, List, [], ◌∷◌, Some, None, slice_get, All, refl, sym, ap, ap₂, ◌∙◌, subst, arith}
-use Rattle.std.specs.List.{position_or_len}
+use Rattle.std.specs.List.{position_or_len, AllByRecursion as Each}
 use Rattle.std.specs.Option.{option_map}
 use Rattle.std.proofs.lemmas.Bool.Decides.{nat_tests}
 use Rattle.std.proofs.lemmas.List.Elements.{All-nil, All-cons}
@@ -27,7 +27,6 @@ use Rattle.optinline.proofs.Built.{each_of_all}
 use Rattle.optinline.proofs.OneMain.{IsOneMain, one_main}
 use Rattle.optinline.proofs.PlainBody as plain
 use Rattle.optinline.proofs.SameRuns.{runs_same}
-use Rattle.ir_core.proofs.Lists.{Each}
 
 -- ---- the numbers of all registers are small
 

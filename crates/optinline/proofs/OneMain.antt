@@ -1,7 +1,7 @@
 -- A valid module of which all is built has one definition, `main`, of one block.
 use Rattle.std.proofs.Common.{◌≡◌, ℕ, zero, suc, ◌≤◌, ◌<◌, Bool, true, false, not, if◌then◌else◌, codes, List, [], ◌∷◌, ◌++◌, map, drop, length, Option, Some, None, slice_get, All, Contains, refl, sym, ap, ◌∙◌, subst, arith}
 use Rattle.std.specs.Prelude.{unwrap_or}
-use Rattle.std.specs.List.{flat_map}
+use Rattle.std.specs.List.{flat_map, AllByRecursion as Each}
 use Rattle.std.proofs.lemmas.Option.{slice_get_within, get_or_from_slice_get}
 use Rattle.std.proofs.lemmas.Slice.Eq.{bytes_eq-Decides}
 use Rattle.std.proofs.lemmas.List.{append-nil}
@@ -21,7 +21,6 @@ use Rattle.ir_core.specs.Operands.{start, symbol_text, is_up_to}
 use Rattle.ir_core.specs.Source.{is_main}
 use Rattle.ir_core.specs.Valid.{IsValid}
 use Rattle.ir_core.specs.ValidModule.{Introduced, introduced, introduced_funcs}
-use Rattle.ir_core.proofs.Lists.{Each}
 use Rattle.module_rules.specs.Faults.{place_if}
 use Rattle.module_rules.proofs.Earliest.{up_to_total}
 use Rattle.optinline.specs.declared.body.TheConstants.{MOST_OPS}

@@ -1,7 +1,7 @@
 -- The plain flat body of a `main` of which all is built is the flat body of its operations, whose registers are defined
 -- before they are used.
 use Rattle.std.proofs.Common.{◌≡◌, inl, inr, ℕ, zero, suc, ◌+◌, ◌<◌, ◌≤◌, Bool, true, false, cond, not, nat_eq, ◌==◌, ◌&&◌, List, [], ◌∷◌, ◌++◌, map, length, Option, Some, None, slice_get, Contains, ℤ, pos, negsuc, refl, sym, ap, ap₂, ◌∙◌, subst, arith}
-use Rattle.std.specs.List.{flat_map, filter_map, cons_option, position_or_len}
+use Rattle.std.specs.List.{flat_map, filter_map, cons_option, position_or_len, AllByRecursion as Each}
 use Rattle.std.specs.Option.{option_map}
 use Rattle.std.proofs.lemmas.Bool.Decides.{nat_tests}
 use Rattle.std.proofs.lemmas.List.{append-nil, length-map}
@@ -37,7 +37,7 @@ use Rattle.ir_core.specs.Plain.{other_operand, other_instr, other_end, other_phi
 use Rattle.ir_core.specs.Valid.{IsValidFunc}
 use Rattle.ir_core.specs.ValidFunc.{LocalAt, instr_local, block_locals_at, locals_at, IsPhi}
 use Rattle.ir_core.specs.ValidPaths.{IsBlockOf, IsPathOf, IsAssigned, IsUse}
-use Rattle.ir_core.proofs.Lists.{Has, Each, contains, has_left, has_right, place_within, place_has, has_at, element}
+use Rattle.ir_core.proofs.Lists.{Has, contains, has_left, has_right, place_within, place_has, has_at, element}
 use Rattle.module_rules.proofs.Distinct.{IsDistinct, distinct_numbers, map_at}
 use Rattle.optinline.specs.Bodies.{IsKnown, OpIsKnown, AreDefined, IsDefined}
 use Rattle.optinline.specs.Meaning.{operand_of, bin_op, instr_of, instrs_of, flat_body}

@@ -1,7 +1,7 @@
 -- A flat body of at most so many sums and differences of words of 32 bits: its frame and its code are small, all its items are
 -- instructions, and a program that begins with it is one of sums.
 use Rattle.std.proofs.Common.{◌≡◌, ◌⊎◌, inl, inr, ℕ, zero, suc, ◌+◌, ◌*◌, ◌%◌, ◌<◌, ◌≤◌, refl, sym, ap, ap₂, ◌∙◌, subst, arith, Bool, true, false, if◌then◌else◌, nat_le, ◌==◌, List, [], ◌∷◌, ◌++◌, map, length, Option, Some, None, All, Contains, slice_get, pos}
-use Rattle.std.specs.List.{flat_map, filter_map, cons_option}
+use Rattle.std.specs.List.{flat_map, filter_map, cons_option, AllByRecursion as Each}
 use Rattle.std.specs.Int.{next_multiple_of}
 use Rattle.std.proofs.lemmas.List.{append-nil, length-append}
 use Rattle.std.proofs.lemmas.List.Elements.{All-from_recursion}
@@ -24,7 +24,7 @@ use Rattle.ir_core.specs.declared.flat.FlatBody.{FlatBody}
 use Rattle.ir_core.specs.Flat.{Program}
 use Rattle.ir_core.specs.Formed.{FuncType, HasType, IsTyped, IsBlock, IsParamOrWritten, IsFormedBody, ReturnsType, written_by, used_by, used_at_end, all_writes, all_uses}
 use Rattle.ir_core.specs.WellFormed.{IsWellFormed}
-use Rattle.ir_core.proofs.Lists.{Has, Each, has_in, at_has, all_at, has_left, has_right, has_part, has_source, each_of, each_from}
+use Rattle.ir_core.proofs.Lists.{Has, has_in, at_has, all_at, has_left, has_right, has_part, has_source, each_of, each_from}
 use Rattle.frame_layout.specs.Offsets.{Offsets, slot_of, place_of}
 use Rattle.frame_layout.specs.declared.laying.TheConstants.{LARGEST_FRAME}
 use Rattle.frame_layout.specs.declared.parts.Part.{Part}
