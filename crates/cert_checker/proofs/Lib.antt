@@ -1,0 +1,4 @@
+pub mod States
+pub mod WorthBounds
+pub mod Whole
+pub mod LeastMaps

@@ -1,0 +1,5 @@
+pub mod Maps
+pub mod Kept
+pub mod Trees
+pub mod Sizes
+pub mod Low
