@@ -4,7 +4,7 @@ use Rattle.std.specs.Prelude.{codes, decimal}
 use Rattle.oi_base.specs.declared.ids.Place.{Place}
 use Rattle.ir_core.specs.FirstBroken.{IsFirstPlace}
 use Rattle.optinline.specs.declared.status.TheConstants.{DONE, REFUSED, NOT_BUILT}
-use Rattle.optinline.specs.declared.body.Body.{Body}
+use Rattle.ir_core.specs.declared.module.Module.{Module}
 use Rattle.optinline.specs.Words.{Words}
 use Rattle.optinline.specs.Answer.{refusal, refused, not_yet, built}
 
@@ -23,9 +23,9 @@ pub not_yet_status : (p : Place) → (not_yet p).status ≡ NOT_BUILT
 unfolding not_yet
 not_yet_status p = refl
 
-pub built_status : (w : Words) (b : Body) → (built w b).status ≡ DONE
+pub built_status : (w : Words) (m : Module) → (built w m).status ≡ DONE
 unfolding built
-built_status w b = refl
+built_status w m = refl
 
 -- a list with a first place has some
 pub first_of_some : (ps : List Place) (p : Place) → IsFirstPlace (λ q. Contains ps q) p → ps ≢ []

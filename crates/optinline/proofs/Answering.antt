@@ -26,7 +26,6 @@ use Rattle.ir_verifier.proofs.VerdictDecided.{verdict}
 use Rattle.module_rules.specs.First.{earliest, IsFound}
 use Rattle.optinline.specs.declared.status.TheConstants.{NO_COMMAND, TOO_LONG, ABSENT}
 use Rattle.optinline.specs.Words.{Words, command_of}
-use Rattle.optinline.specs.MainBody.{main_body}
 use Rattle.optinline.specs.Unbuilt.{unbuilt}
 use Rattle.optinline.specs.Answer.{Answer, refusal, refused, rule_word, not_yet, fault_place, fault_word, built, module_limit, IsValidAnswer, not_built, accepted, IsReadAnswer, broken, valid, IsModuleAnswer, unread, read, IsFileAnswer, IsCommandAnswer, IsAnswer}
 use Rattle.optinline.proofs.Answered.{first_of_some}
@@ -54,7 +53,7 @@ module _ (words : Words) where
         no_place (p ∷ ps) h = absurd (h p (0, omega arith, refl))
 
         by_first : (o : Option Place) → IsFound (λ q. Contains (unbuilt m) q) o → (a : Answer) × IsReadAnswer words m a
-        by_first None h = (built words (main_body m), valid v (accepted (no_place (unbuilt m) h) refl))
+        by_first None h = (built words m, valid v (accepted (no_place (unbuilt m) h) refl))
         by_first (Some p) h = (not_yet p, valid v (not_built p h refl))
 
     to_read : IsProper m → (a : Answer) × IsReadAnswer words m a

@@ -5,17 +5,13 @@ use Rattle.std.specs.List.{flat_map, position_or_len, AllByRecursion as Each}
 use Rattle.std.proofs.lemmas.Bool.Decides.{nat_tests}
 use Rattle.std.proofs.lemmas.List.Elements.{All-head, All-tail}
 use Rattle.oi_base.specs.declared.ids.Place.{Place}
-use Rattle.ir_core.specs.declared.flat.BinOp.{BinOp}
-use Rattle.ir_core.specs.declared.flat.BinOp.TheVariants as bin
 use Rattle.ir_core.specs.declared.op.LocalId.{LocalId}
 use Rattle.ir_core.specs.declared.op.Op.{Op}
 use Rattle.ir_core.specs.declared.op.Op.TheVariants as ops
 use Rattle.ir_core.specs.declared.func.Instr.{Instr}
 use Rattle.ir_core.specs.Proper.{HasItsResult}
 use Rattle.module_rules.specs.Faults.{place_if}
-use Rattle.optinline.specs.Meaning.{bin_op}
-use Rattle.optinline.specs.MainBody.{sum_of}
-use Rattle.optinline.specs.Unbuilt.{adds_or_subtracts, is_sum}
+use Rattle.optinline.specs.Unbuilt.{is_sum}
 
 -- ---- tests
 
@@ -69,40 +65,7 @@ one_in y x h = by_place h.0 h.1 h.2
     by_place zero lt e = e
     by_place (suc k) lt e = absurd (omega (arith, lt))
 
--- ---- places of numbers
-
-up_to_length : (n : ℕ) (ns : List ℕ) → position_or_len (nat_eq n) ns ≤ length ns
-up_to_length n [] = omega arith
-up_to_length n (m ∷ ms) = by_test (nat_eq n m) (up_to_length n ms)
-  where
-    by_test : (t : Bool) → position_or_len (nat_eq n) ms ≤ length ms → cond (not t) (1 + position_or_len (nat_eq n) ms) 0 ≤ suc (length ms)
-    by_test true h = omega arith
-    by_test false h = omega (arith, h)
-
--- a number that isn't among some stands after them all
-pub not_among : (n : ℕ) (ns : List ℕ) → position (nat_eq n) ns ≡ None → length ns ≡ position_or_len (nat_eq n) ns
-not_among n ns e = by_test (nat_lt (position_or_len (nat_eq n) ns) (length ns)) refl e
-  where
-    by_test : (t : Bool) → nat_lt (position_or_len (nat_eq n) ns) (length ns) ≡ t → cond t (Some (position_or_len (nat_eq n) ns)) None ≡ None → length ns ≡ position_or_len (nat_eq n) ns
-    by_test true t e = absurd cc
-    by_test false t e = let up = up_to_length n ns in let down : length ns ≤ position_or_len (nat_eq n) ns = grind (arith, nat_tests) in omega (arith, up, down)
-
 -- ---- forms
-
-pub is_kind : (kind : BinOp) → adds_or_subtracts kind ≡ true → kind ≡ bin_op (sum_of kind)
-is_kind bin.Add e = refl
-is_kind bin.Sub e = refl
-is_kind bin.Mul e = absurd cc
-is_kind bin.Udiv e = absurd cc
-is_kind bin.Sdiv e = absurd cc
-is_kind bin.Urem e = absurd cc
-is_kind bin.Srem e = absurd cc
-is_kind bin.Shl e = absurd cc
-is_kind bin.Lshr e = absurd cc
-is_kind bin.Ashr e = absurd cc
-is_kind bin.And e = absurd cc
-is_kind bin.Or e = absurd cc
-is_kind bin.Xor e = absurd cc
 
 some_result : (r : Option LocalId) → IsSome r → (d : LocalId) × (r ≡ Some d)
 some_result None h = absurd cc

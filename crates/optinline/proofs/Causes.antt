@@ -9,7 +9,6 @@ use Rattle.ir_core.specs.Valid.{IsValid}
 use Rattle.ir_reader.specs.Refusals.{ReadsWithin}
 use Rattle.optinline.specs.declared.status.TheConstants.{DONE, NO_COMMAND, REFUSED, TOO_LONG, NOT_BUILT, ABSENT}
 use Rattle.optinline.specs.Words.{Words, command_of}
-use Rattle.optinline.specs.MainBody.{main_body}
 use Rattle.optinline.specs.Unbuilt.{unbuilt}
 use Rattle.optinline.specs.Answer.{Answer, fault_place, fault_word, refusal, module_limit, IsValidAnswer, not_built, accepted, IsReadAnswer, broken, valid, IsModuleAnswer, unread, read, IsFileAnswer, IsCommandAnswer, IsAnswer, IsBuildOf, Iff, HasCauses}
 use Rattle.optinline.proofs.Answered.{refused_status, not_yet_status, built_status, first_of_some}
@@ -107,7 +106,7 @@ module _ (words : List (List ℕ)) (files : Files) (a : Answer) where
 
     on_valid : IsValid m → IsValidAnswer w m a → HasCauses words files a.status
     on_valid v (not_built p first same) = on_not_built v (first_of_some (unbuilt m) p first) (ap (λ (x : Answer). x.status) same ∙ not_yet_status p)
-    on_valid v (accepted all same) = on_accepted v all (ap (λ (x : Answer). x.status) same ∙ built_status w (main_body m))
+    on_valid v (accepted all same) = on_accepted v all (ap (λ (x : Answer). x.status) same ∙ built_status w m)
 
     on_read : IsReadAnswer w m a → HasCauses words files a.status
     on_read (broken rule p first same) = on_refused w bytes e f short (λ n k v. broken_not_valid m rule p first (subst IsValid (one_within bytes n m k h) v)) (ap (λ (x : Answer). x.status) same ∙ refused_status p _)

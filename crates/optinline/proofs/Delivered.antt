@@ -7,38 +7,25 @@ use Rattle.std.specs.FinMap as finite
 use Rattle.std.proofs.lemmas.Cmp.{nat_list_cmp_total}
 use Rattle.std.proofs.lemmas.Map.Text.{is_eq-slice_cmp}
 use Rattle.std.proofs.lemmas.Slice.Eq.{bytes_eq-Decides}
-use Rattle.std.proofs.lemmas.List.{append-nil}
-use Rattle.std.proofs.lemmas.List.Elements.{All-cons}
 use Rattle.std.proofs.Math.Nat.{le_refl}
 use Rattle.oi_world.specs.Desk.{Files}
-use Rattle.elf_object.specs.declared.image.TheConstants.{LARGEST_DATA, LARGEST_TABLES}
-use Rattle.elf_object.specs.declared.symbol.Symbol.{Symbol}
-use Rattle.elf_object.specs.declared.symbol.SymKind.TheVariants.{Func}
-use Rattle.elf_object.specs.Image.{Parts, IsNamed, HasWords, IsImage, IsLocalFirst, string_table, symbol_table_size}
-use Rattle.rv_select.proofs.Texts.{bytes_length}
-use Rattle.rv_select.specs.Parts.{stub}
-use Rattle.rv_select.specs.Texts.{bytes_of}
 use Rattle.oi_base.specs.declared.ids.Place.{Place}
 use Rattle.ir_core.specs.declared.module.Module.{Module}
 use Rattle.ir_core.specs.Proper.{IsProper}
 use Rattle.ir_core.specs.Valid.{IsValid}
+use Rattle.frame_layout.specs.Frame.{frame}
+use Rattle.image_layout.specs.Image.{image}
 use Rattle.ir_reader.specs.Refusals.{ReadsWithin}
-use Rattle.optinline.specs.declared.body.TheConstants.{MOST_OPS}
 use Rattle.optinline.specs.declared.status.TheConstants.{DONE, NO_COMMAND, TOO_LONG, ABSENT}
-use Rattle.optinline.specs.declared.body.Body.{Body}
-use Rattle.optinline.specs.Lowering.{frame_size, size, main_code}
-use Rattle.optinline.specs.Executable.{image, main_function, object}
 use Rattle.optinline.specs.Reply.{after_writes}
 use Rattle.optinline.specs.Words.{Words, files_differ, checked, budget_of, command_of}
-use Rattle.optinline.specs.MainBody.{main_body}
+use Rattle.optinline.specs.Object.{main_body, main_codes, size, object_file}
 use Rattle.optinline.specs.Unbuilt.{unbuilt}
 use Rattle.optinline.specs.Answer.{Answer, refusal, refused, rule_word, fault_place, fault_word, built, certificate, module_limit, IsValidAnswer, not_built, accepted, IsReadAnswer, broken, valid, IsModuleAnswer, unread, read, IsFileAnswer, IsCommandAnswer, IsAnswer}
 use Rattle.optinline.specs.Delivered.{DoesAs, Delivers}
 use Rattle.optinline.proofs.Answered.{refused_status, not_yet_status}
-use Rattle.optinline.proofs.ModuleRuns.{main_defined}
+use Rattle.optinline.proofs.Objects.{object_bounds, object_words, object_refines, text_length}
 use Rattle.optinline.proofs.Refusals.{read_proper}
-use Rattle.optinline.proofs.Lengths.{len-main_code}
-use Rattle.optinline.proofs.Refined.{image_refines_module}
 
 -- ---- files
 
@@ -99,89 +86,40 @@ command_differ (a ∷ m ∷ o ∷ d ∷ c ∷ last ∷ more ∷ rest) w h = absu
 
 -- ---- the object
 
-main_not_zero : All (λ (b : ℕ). b ≢ 0) (109 ∷ 97 ∷ 105 ∷ 110 ∷ [])
-main_not_zero =
-    let P : ℕ → Type 0 = λ b. b ≢ 0 in
-    All-cons P 109 (97 ∷ 105 ∷ 110 ∷ []) (λ e. absurd (omega arith)) (All-cons P 97 (105 ∷ 110 ∷ []) (λ e. absurd (omega arith)) (All-cons P 105 (110 ∷ []) (λ e. absurd (omega arith)) (All-cons P 110 [] (λ e. absurd (omega arith)) (λ k d h. absurd (omega arith)))))
-
-module _ (b : Body) (few : length b.ops ≤ MOST_OPS) where
-  abbrev i : Parts
-  i = image 16 (main_function b ∷ [])
-
-  text_size : length i.text ≡ size b
-  unfolding image
-  text_size =
-      let l = length-append (stub 16) (main_code b) in
-      ap (λ c. length (bytes_of (stub 16 ++ c))) (append-nil (main_code b)) ∙ bytes_length (stub 16 ++ main_code b) ∙ (let z : 4 * length (stub 16 ++ main_code b) ≡ size b = omega arith in z)
-
-  no_data : i.data_bytes ≡ []
-  unfolding image
-  no_data = refl
-
-  abbrev main_symbol : Symbol
-  main_symbol = record { name = codes "main"; value = 65552; size = 4 * length (main_code b); kind = Func; global = true }
-
-  one_symbol : i.symbols ≡ main_symbol ∷ []
-  unfolding image
-  one_symbol = refl
-
-  bounds : IsImage i
-  bounds =
-      let m = len-main_code b in
-      record {
-        text_least = omega (arith, text_size);
-        text_most = omega (arith, text_size);
-        text_words = omega (arith, text_size);
-        data_most = subst (λ (d : List ℕ). length d ≤ LARGEST_DATA) (sym no_data) (omega arith);
-        named = subst (All IsNamed) (sym one_symbol) (All-cons IsNamed main_symbol [] (record { not_empty = omega arith; no_zero = main_not_zero }) (λ k d h. absurd (omega arith)));
-        local_first = subst IsLocalFirst (sym one_symbol) (λ g k d h. absurd (omega arith), tt);
-        symbols_most = subst (λ ss. symbol_table_size ss + length (string_table ss) ≤ LARGEST_TABLES) (sym one_symbol) (omega arith);
-      }
-
-  symbol_words : All HasWords i.symbols
-  symbol_words =
-      let m = len-main_code b in
-      subst (All HasWords) (sym one_symbol) (All-cons HasWords main_symbol [] (record { value = omega arith; size = omega arith }) (λ k d h. absurd (omega arith)))
-  -- ---- the files
-
 module _ (m : Module) (proper : IsProper m) (valid : IsValid m) (all : unbuilt m ≡ []) where
-  few : length (main_body m).ops ≤ MOST_OPS
-  few = (main_defined m proper valid all).few
-
-  does_as : DoesAs m (frame_size (length (main_body m).ops)) (object (main_body m)) (i (main_body m) few)
-  does_as = record { file = refl; bounds = bounds (main_body m) few; words = symbol_words (main_body m) few; refines = image_refines_module m proper valid all }
+  does_as : DoesAs m (frame (main_body m)) (object_file m) (image m (main_codes m))
+  does_as = record { file = refl; bounds = object_bounds m proper valid all; words = object_words m proper valid all; refines = object_refines m proper valid all }
 
   -- ---- the files after a build of this module
 
   module _ (words : List (List ℕ)) (w : Words) (before : Files) (bytes : List ℕ) (fs' : Option Files) (command : command_of words ≡ Some w) (file : finite.get before w.«module» ≡ Some bytes) (within : ReadsWithin bytes m) where
-    written : (a : Answer) → a ≡ built w (main_body m) → fs' ≡ after_writes a.writes (Some before) → (after : Files) × (fs' ≡ Some after) × Delivers words before after
+    written : (a : Answer) → a ≡ built w m → fs' ≡ after_writes a.writes (Some before) → (after : Files) × (fs' ≡ Some after) × Delivers words before after
     unfolding built
     written a is left =
-        let b = main_body m in
         let d = command_differ words w command in
-        let after1 = finite.insert before w.object (object b) in
+        let after1 = finite.insert before w.object (object_file m) in
         let after2 = finite.insert after1 w.decisions [] in
-        let after3 = finite.insert after2 w.cert (certificate b) in (
+        let after3 = finite.insert after2 w.cert (certificate m) in (
           after3,
           left ∙ ap (λ (x : Answer). after_writes x.writes (Some before)) is,
           record {
             build = w;
             bytes = bytes;
             «module» = m;
-            object = object b;
-            image = image 16 (main_function b ∷ []);
+            object = object_file m;
+            image = image m (main_codes m);
             map = [];
             command = command;
             file = file;
             read = within;
             valid = valid;
-            object_file = get_file after2 w.object w.cert (certificate b) false d.object_cert ∙ get_file after1 w.object w.decisions [] false d.object_decisions ∙ get_file before w.object w.object (object b) true (same_name w.object);
+            object_file = get_file after2 w.object w.cert (certificate m) false d.object_cert ∙ get_file after1 w.object w.decisions [] false d.object_decisions ∙ get_file before w.object w.object (object_file m) true (same_name w.object);
             does = does_as;
-            text = text_size b few;
+            text = text_length m (main_codes m);
             over = refl;
-            decisions_file = get_file after2 w.decisions w.cert (certificate b) false d.decisions_cert ∙ get_file after1 w.decisions w.decisions [] true (same_name w.decisions);
-            least = λ other h. le_refl (size b);
-            certificate_file = get_file after2 w.cert w.cert (certificate b) true (same_name w.cert);
+            decisions_file = get_file after2 w.decisions w.cert (certificate m) false d.decisions_cert ∙ get_file after1 w.decisions w.decisions [] true (same_name w.decisions);
+            least = λ other h. le_refl (size m);
+            certificate_file = get_file after2 w.cert w.cert (certificate m) true (same_name w.cert);
           },
         )
 

@@ -47,7 +47,7 @@ use Rattle.ir_safety.specs.PlainTypes.{plain_types, plain_funcs, HasFewOwn, HasF
 use Rattle.ir_safety.proofs.FormedBodies.{plain_is_formed}
 use Rattle.module_rules.proofs.WalkLaws.{word_decides}
 use Rattle.rv_select.specs.Stands.{body_in, empty_body}
-use Rattle.optinline.specs.declared.body.TheConstants.{MOST_OPS}
+use Rattle.optinline.specs.declared.unbuilt.TheConstants.{MOST_OPS}
 use Rattle.optinline.specs.Unbuilt.{is_simple, adds_or_subtracts, is_sum, returns_simple}
 use Rattle.optinline.specs.Object.{main_body}
 use Rattle.optinline.proofs.Built.{left_passes, right_passes}

@@ -49,7 +49,7 @@ use Rattle.image_layout.specs.Symbols.{function_symbol, function_symbols, global
 use Rattle.image_layout.proofs.Bounds.{within_bounds}
 use Rattle.image_layout.proofs.Laid.{image_laid}
 use Rattle.image_layout.specs.Codes.{HasCode, IsKnown, AreCodes, HasBody, IsProgramOf}
-use Rattle.optinline.specs.declared.body.TheConstants.{MOST_OPS}
+use Rattle.optinline.specs.declared.unbuilt.TheConstants.{MOST_OPS}
 use Rattle.optinline.specs.Object.{main_body, main_codes, size, body_size}
 use Rattle.optinline.specs.Unbuilt.{unbuilt}
 use Rattle.optinline.proofs.OneMain.{IsOneMain, one_main}
@@ -206,6 +206,10 @@ text_length m codes = bytes_length (linked (link_of m codes) text_start (text_it
 module _ (m : Module) (proper : IsProper m) (valid : IsValid m) (none : unbuilt m ≡ []) where
   abbrev its : (f : Func) × (b : Block) × IsOneMain m f b
   its = one_main m proper valid none
+
+  -- `main` is one of its functions
+  pub main_there : main_number m < length m.funcs
+  main_there = let first = main_first m its.0 its.1 its.2 in let count = ap (λ (fs : List Func). length fs) its.2.funcs in omega (arith, first, count)
 
   -- its codes are such as an image is made of, and small enough
   pub codes_given : AreCodes m (main_codes m)

@@ -23,7 +23,7 @@ use Rattle.ir_core.specs.Valid.{IsValid}
 use Rattle.ir_core.specs.ValidModule.{Introduced, introduced, introduced_funcs}
 use Rattle.module_rules.specs.Faults.{place_if}
 use Rattle.module_rules.proofs.Earliest.{up_to_total}
-use Rattle.optinline.specs.declared.body.TheConstants.{MOST_OPS}
+use Rattle.optinline.specs.declared.unbuilt.TheConstants.{MOST_OPS}
 use Rattle.optinline.specs.Unbuilt.{is_sum, returns_simple, instr_places, block_places, instr_unbuilt, block_unbuilt, main_unbuilt, func_unbuilt, global_unbuilt, unbuilt}
 use Rattle.optinline.proofs.Built.{first_none, rest_none, singles_none, parts_none, dropped_none, each_of_all, none_in, one_in, none_if, has_result}
 

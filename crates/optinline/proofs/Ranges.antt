@@ -1,4 +1,4 @@
--- Each instruction of the code of `main` has a word.
+-- Each instruction that loads, stores, opens a frame or closes it has a word.
 use Rattle.std.proofs.Common.{◌≡◌, ℕ, ◌+◌, ◌%◌, ◌<◌, ◌≤◌, refl, arith, Bool, true, false, nat_le, if◌then◌else◌, ◌==◌, List, [], ◌∷◌, ◌++◌, length, All, pos, neg_ℤ}
 use Rattle.std.proofs.lemmas.Bool.Decides.{nat_tests}
 use Rattle.std.proofs.lemmas.Int.{ints}
@@ -6,14 +6,7 @@ use Rattle.std.proofs.lemmas.List.Elements.{All-append, All-cons}
 use Rattle.rv_isa.specs.declared.rv.Rv.{Rv}
 use Rattle.rv_isa.specs.declared.rv.Rv.TheVariants as rv
 use Rattle.rv_isa.specs.Words.{InRange, IsSigned}
-use Rattle.rv_select.specs.Parts.{hi, lo, is_short, load_word, far_base, load_slot, store_slot, load_home, large_frame, frame_down, frame_up, open_frame, epilogue, stub}
-use Rattle.optinline.specs.declared.body.Value.{Value}
-use Rattle.optinline.specs.declared.body.Value.TheVariants.{Reg, Word}
-use Rattle.optinline.specs.declared.body.Sum.{Sum}
-use Rattle.optinline.specs.declared.body.Sum.TheVariants.{Add, Sub}
-use Rattle.optinline.specs.declared.body.Op.{Op}
-use Rattle.optinline.specs.declared.body.Body.{Body}
-use Rattle.optinline.specs.Lowering.{slot, frame_size, load, machine_op, op_code, ops_code, main_code}
+use Rattle.rv_select.specs.Parts.{hi, lo, is_short, load_word, far_base, load_slot, store_slot, load_home, large_frame, frame_down, frame_up, open_frame, epilogue}
 
 hi_signed : (w : ℕ) → IsSigned 19 (hi w)
 unfolding hi
@@ -102,36 +95,3 @@ pub epilogue_ranges : (f : ℕ) → All InRange (epilogue f)
 epilogue_ranges f = both (rv.Lw 1 2 (pos 0) ∷ frame_up f) (rv.Jalr 0 1 (pos 0) ∷ [])
     (All-cons InRange (rv.Lw 1 2 (pos 0)) (frame_up f) (omega arith, omega arith, small_signed 0 (omega arith)) (up_ranges f))
     (one (rv.Jalr 0 1 (pos 0)) (omega arith, omega arith, small_signed 0 (omega arith)))
-
-stub_ranges : (d : ℕ) → All InRange (stub d)
-stub_ranges d =
-    let tail = rv.Addi 17 0 (pos 3) ∷ rv.Ecall ∷ [] in
-    All-cons InRange (rv.Auipc 1 (hi d)) (rv.Jalr 1 1 (lo d) ∷ tail) (omega arith, hi_signed d)
-    (All-cons InRange (rv.Jalr 1 1 (lo d)) tail (omega arith, omega arith, lo_signed d)
-    (All-cons InRange (rv.Addi 17 0 (pos 3)) (rv.Ecall ∷ []) (omega arith, omega arith, small_signed 3 (omega arith)) (one rv.Ecall tt)))
-
-load_ranges : (r : ℕ) (v : Value) → r < 32 → All InRange (load r v)
-load_ranges r (Reg k) h = slot_ranges r (slot k) h
-load_ranges r (Word w) h = word_ranges r w h
-
-machine_range : (s : Sum) → InRange (machine_op s)
-machine_range Add = (omega arith, omega arith, omega arith)
-machine_range Sub = (omega arith, omega arith, omega arith)
-
-op_ranges : (n : ℕ) (op : Op) → All InRange (op_code n op)
-unfolding op_code
-op_ranges n op = both (load 5 op.left ++ load 6 op.right ++ machine_op op.sum ∷ []) (store_slot 5 (slot n)) (both (load 5 op.left ++ load 6 op.right) (machine_op op.sum ∷ []) (both (load 5 op.left) (load 6 op.right) (load_ranges 5 op.left (omega arith)) (load_ranges 6 op.right (omega arith))) (one (machine_op op.sum) (machine_range op.sum))) (store_ranges 5 (slot n) (omega arith))
-
-ops_ranges : (n : ℕ) (ops : List Op) → All InRange (ops_code n ops)
-unfolding ops_code
-ops_ranges n [] = none
-ops_ranges n (op ∷ ops) = both (op_code n op) (ops_code (n + 1) ops) (op_ranges n op) (ops_ranges (n + 1) ops)
-
-main_ranges : (b : Body) → All InRange (main_code b)
-unfolding main_code
-main_ranges b =
-    let f = frame_size (length b.ops) in
-    both (open_frame f ++ ops_code 0 b.ops ++ load 10 b.value) (epilogue f) (both (open_frame f ++ ops_code 0 b.ops) (load 10 b.value) (both (open_frame f) (ops_code 0 b.ops) (open_ranges f) (ops_ranges 0 b.ops)) (load_ranges 10 b.value (omega arith))) (epilogue_ranges f)
-
-pub program_ranges : (d : ℕ) (b : Body) → All InRange (stub d ++ main_code b)
-program_ranges d b = both (stub d) (main_code b) (stub_ranges d) (main_ranges b)

@@ -17,15 +17,12 @@ use Rattle.ir_grammar.specs.Pieces.{lexical_place}
 use Rattle.ir_phrases.specs.declared.fault.ReadFault.{ReadFault}
 use Rattle.ir_phrases.specs.declared.fault.ReadFault.TheVariants as faults
 use Rattle.ir_reader.specs.Refusals.{ReadsWithin, IsRefusal}
-use Rattle.optinline.specs.declared.body.Body.{Body}
 use Rattle.optinline.specs.declared.reply.Reply.{Reply}
 use Rattle.optinline.specs.declared.answer.TheConstants.{MODULE_LIMIT}
 use Rattle.optinline.specs.declared.status.TheConstants.{DONE, NO_COMMAND, REFUSED, TOO_LONG, NOT_BUILT, ABSENT}
-use Rattle.optinline.specs.Lowering.{size, body_size}
-use Rattle.optinline.specs.Executable.{object}
+use Rattle.optinline.specs.Object.{size, body_size, object_file}
 use Rattle.optinline.specs.Reply.{writes_of, after_writes, with_said, CutShort}
 use Rattle.optinline.specs.Words.{Words, command_of}
-use Rattle.optinline.specs.MainBody.{main_body}
 use Rattle.optinline.specs.Unbuilt.{unbuilt}
 
 -- ---- answers
@@ -59,15 +56,15 @@ leaf part = codes "tree\nL " ++ decimal part ++ codes "\n"
 
 -- The certificate of a module without candidate sites: the bytes of its text, no decisions, and a tree of one leaf,
 -- which states the bytes of the functions' codes.
-abbrev pub certificate : Body → List ℕ
-certificate b = heading (size b) ++ leaf (body_size b)
+abbrev pub certificate : Module → List ℕ
+certificate m = heading (size m) ++ leaf (body_size m)
 
--- the answer to a build of this `main`: there are no candidate sites, so there are no decisions
-unfoldable pub built : Words → Body → Answer
-built words b = record {
+-- the answer to a build of a module of which all is built: there are no candidate sites, so there are no decisions
+unfoldable pub built : Words → Module → Answer
+built words m = record {
   status = DONE;
-  writes = (words.object, object b) ∷ (words.decisions, []) ∷ (words.cert, certificate b) ∷ [];
-  said = summary (size b);
+  writes = (words.object, object_file m) ∷ (words.decisions, []) ∷ (words.cert, certificate m) ∷ [];
+  said = summary (size m);
 }
 
 -- ---- refusals of a module
@@ -120,7 +117,7 @@ not_yet p = refusal NOT_BUILT (with_place (codes "not built ") p ++ codes "\n")
 -- the answer to a build of a valid module
 pub data IsValidAnswer (words : Words) (m : Module) (a : Answer) : Type 0 where
   not_built : (p : Place) → IsFirstPlace (λ q. Contains (unbuilt m) q) p → a ≡ not_yet p → IsValidAnswer words m a
-  accepted : unbuilt m ≡ [] → a ≡ built words (main_body m) → IsValidAnswer words m a
+  accepted : unbuilt m ≡ [] → a ≡ built words m → IsValidAnswer words m a
 
 -- to that of a module that was read
 pub data IsReadAnswer (words : Words) (m : Module) (a : Answer) : Type 0 where

@@ -7,17 +7,16 @@ use Rattle.ir_core.specs.declared.module.Module.{Module}
 use Rattle.ir_core.specs.Source.{src}
 use Rattle.rv_isa.specs.Isa.{run}
 use Rattle.rv_isa.specs.Refines.{Refines}
-use Rattle.elf_object.specs.Image.{Parts, IsImage, HasWords}
+use Rattle.elf_object.specs.Image.{Parts, IsImage, HasWords, loaded_segments}
 use Rattle.elf_object.specs.File.{elf}
+use Rattle.frame_layout.specs.Frame.{frame}
 use Rattle.decisions.specs.declared.maps.Label.{Label}
 use Rattle.decisions.specs.Maps.{sites_of}
 use Rattle.decisions.specs.Text.{text_of}
 use Rattle.ir_core.specs.Valid.{IsValid}
 use Rattle.ir_reader.specs.Refusals.{ReadsWithin}
 use Rattle.optinline.specs.Words.{Words, command_of}
-use Rattle.optinline.specs.Lowering.{frame_size, size}
-use Rattle.optinline.specs.MainBody.{main_body}
-use Rattle.optinline.specs.Layout.{segments_of}
+use Rattle.optinline.specs.Object.{main_body, size}
 use Rattle.optinline.specs.Answer.{certificate}
 
 -- ---- maps
@@ -32,7 +31,7 @@ IsMapOver m map = sites_of map ≡ candidates m
 
 -- the bytes of the text under a map: without candidates it is that of the one lowering
 abbrev pub size_under : Module → List (SiteId × Label) → ℕ
-size_under m map = size (main_body m)
+size_under m map = size m
 
 -- no map gives less
 abbrev pub IsLeast : Module → List (SiteId × Label) → Type 0
@@ -46,7 +45,7 @@ pub record DoesAs (m : Module) (largest : ℕ) (object : List ℕ) (image : Part
   pub file : object ≡ elf image
   pub bounds : IsImage image
   pub words : All HasWords image.symbols
-  pub refines : (input : List ℕ) → All (λ (b : ℕ). b < 256) input → Refines largest (src m input) (run (segments_of image) input)
+  pub refines : (input : List ℕ) → All (λ (b : ℕ). b < 256) input → Refines largest (src m input) (run (loaded_segments image) input)
 
 -- The words are a build of the text of a valid module. OBJECT does what the module says, and its text has the size of
 -- the map that DECISIONS holds; no map gives less; and CERT is the certificate that states it.
@@ -62,9 +61,9 @@ pub record Delivers (words : List (List ℕ)) (before after : Files) : Type 0 wh
   pub read : ReadsWithin bytes «module»
   pub valid : IsValid «module»
   pub object_file : finite.get after build.object ≡ Some object
-  pub does : DoesAs «module» (frame_size (length (main_body «module»).ops)) object image
+  pub does : DoesAs «module» (frame (main_body «module»)) object image
   pub text : length image.text ≡ size_under «module» map
   pub over : IsMapOver «module» map
   pub decisions_file : finite.get after build.decisions ≡ Some (text_of map)
   pub least : IsLeast «module» map
-  pub certificate_file : finite.get after build.cert ≡ Some (certificate (main_body «module»))
+  pub certificate_file : finite.get after build.cert ≡ Some (certificate «module»)

@@ -1,11 +1,5 @@
 pub mod Answer
-pub mod Bodies
 pub mod Delivered
-pub mod Executable
-pub mod Layout
-pub mod Lowering
-pub mod MainBody
-pub mod Meaning
 pub mod Object
 pub mod Reply
 pub mod Unbuilt

@@ -1,6 +1,6 @@
 -- What a build does not take yet of a module that breaks no rule. It takes a `main` of one block of at most `MOST_OPS` sums and
 -- differences of words of 32 bits, which returns such a word, and neither another definition nor a global variable.
-use Rattle.optinline.specs.declared.body.TheConstants.{MOST_OPS}
+use Rattle.optinline.specs.declared.unbuilt.TheConstants.{MOST_OPS}
 use Rattle.std.specs.Prelude.{Bool, true, false, not, ◌&&◌, if◌then◌else◌, List, [], ◌∷◌, ◌++◌, drop, Some}
 use Rattle.std.specs.List.{flat_map}
 use Rattle.oi_base.specs.declared.ids.Place.{Place}

@@ -5,13 +5,11 @@ ghost use Rattle.oi_world.specs.Desk.{Files};
 ghost use Rattle.ir_core.specs.Proper.{IsProper};
 ghost use Rattle.ir_phrases.specs.declared.fault.ReadFault.TheVariants as faults;
 ghost use Rattle.optinline.specs.Words.{view};
-ghost use Rattle.optinline.specs.Bodies.{IsKnownBody};
+ghost use Rattle.optinline.specs.Unbuilt.{unbuilt};
 ghost use Rattle.optinline.specs.Answer.{Answer, IsAnswer, answer_of, refusal, refused, not_yet, rule_word, fault_place, fault_word, summary, heading, leaf, built, module_limit, IsValidAnswer, IsReadAnswer, IsModuleAnswer, IsFileAnswer, IsBuildStatus};
 
-use crate::body::Body;
-use crate::executable::build_executable;
 use crate::faults::{fault_place, fault_word};
-use crate::one_block::main_body;
+use crate::object::build_object;
 use crate::reply::{FileWrite, Reply};
 use crate::status::{ABSENT, DONE, NOT_BUILT, REFUSED, TOO_LONG};
 use crate::unbuilt::first_unbuilt;
@@ -79,14 +77,14 @@ fn write_of(alloc: Global, name: &str, bytes: Vec<u8>) -> Result<FileWrite, Allo
     })
 }
 
-/// The answer to a build of this `main`.
+/// The answer to a build of a verified module of which all is built.
 #[tactic(auto, unfolding(crate::specs::Answer::built))]
-fn built(alloc: Global, build: &Build<'_>, body: &Body) -> Result<Reply, NoMemory>
-    requires { IsKnownBody body.now }
-    ensures answer { IfOk result (λ r. answer_of r ≡ built (view build.now) body.now) }
+fn built(alloc: Global, build: &Build<'_>, v: &Verified) -> Result<Reply, NoMemory>
+    requires { unbuilt v.now ≡ [] }
+    ensures answer { IfOk result (λ r. answer_of r ≡ built (view build.now) v.now) }
     ensures status { IfOk result (λ r. r.status ≡ DONE) }
 {
-    let object = build_executable(alloc, body)?;
+    let object = build_object(alloc, v)?;
     let cert = certificate(alloc, object.size, object.body_size)?;
     let said = summary(alloc, object.size)?;
     let writes = vec![in alloc;
@@ -142,7 +140,7 @@ fn valid_reply(alloc: Global, build: &Build<'_>, v: &Verified) -> Result<Reply, 
 {
     match first_unbuilt(v.module()) {
         Some(place) => Ok(not_yet(alloc, place)?),
-        None => built(alloc, build, &main_body(alloc, v)?),
+        None => built(alloc, build, v),
     }
 }
 

@@ -2,14 +2,9 @@
 #![tactic(auto)]
 
 mod answer;
-mod assembler;
-mod body;
-mod code;
 mod command;
-mod executable;
 mod faults;
-mod laws;
-mod one_block;
+mod object;
 mod reply;
 mod status;
 #[cfg(test)]

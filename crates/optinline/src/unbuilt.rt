@@ -4,11 +4,13 @@ ghost use Rattle.ir_core.specs.declared.func.Instr.{Instr as instrs};
 ghost use Rattle.module_rules.specs.First.{earliest};
 ghost use Rattle.optinline.specs.Unbuilt.{is_simple, adds_or_subtracts, is_sum, returns_simple, instr_unbuilt, block_places, instr_places, block_unbuilt, main_unbuilt, func_unbuilt, global_unbuilt, unbuilt};
 
-use crate::body::MOST_OPS;
 use ir_core::{BinOp, Block, Const, End, Func, GlobalVar, Instr, Module, Op, Operand};
 use module_rules::has_main::is_main;
 use module_rules::{earlier, earlier_if};
 use oi_base::Place;
+
+/// How many operations a body that is built has at most.
+pub const MOST_OPS: usize = 400;
 
 /// The first place of what isn't built yet of a module, if there is any: a global variable, a definition but `main`, a block
 /// of `main` but its first, an instruction or a terminator of another form, and an operation after `MOST_OPS`.
