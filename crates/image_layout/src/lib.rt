@@ -2,6 +2,7 @@
 #![tactic(auto)]
 
 mod addresses;
+mod entries;
 mod faults;
 mod laws;
 mod symbols;
