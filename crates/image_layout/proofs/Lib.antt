@@ -10,3 +10,5 @@ pub mod WrittenBytes
 pub mod GlobalBytes
 pub mod StructBytes
 pub mod SymbolLists
+pub mod PlaceableGlobals
+pub mod GlobalNames

@@ -2,7 +2,9 @@
 #![tactic(auto)]
 
 mod addresses;
+mod data;
 mod faults;
+mod initialisers;
 mod laws;
 mod symbols;
 mod text;
