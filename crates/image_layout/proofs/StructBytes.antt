@@ -17,7 +17,7 @@ module _ (l : Link) (m : Module) where
   out bs = map (byte_in l) bs
 
   -- a field more
-  pub one_field : (start : ℕ) (c : TypedConst) (cs : List TypedConst) (bytes padded written all : List ℕ)
+  one_field : (start : ℕ) (c : TypedConst) (cs : List TypedConst) (bytes padded written all : List ℕ)
       → start ≤ length bytes
       → FillsType m c.ty c.value
       → padded ≡ bytes ++ replicate (next_multiple_of (length bytes - start) (align m.types.defs c.ty) - (length bytes - start)) 0
@@ -53,7 +53,7 @@ module _ (l : Link) (m : Module) where
       )
 
   -- the fields are all there
-  pub filled : (old bytes new : List ℕ) (size : ℕ) (fields : List Byte)
+  filled : (old bytes new : List ℕ) (size : ℕ) (fields : List Byte)
       → bytes ++ [] ≡ old ++ out fields
       → new ≡ bytes ++ replicate (size - (length bytes - length old)) 0
       → new ≡ old ++ out (filled_up size fields)

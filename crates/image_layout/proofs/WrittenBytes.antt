@@ -1,32 +1,16 @@
 -- The numbers that bytes of memory become in the data.
-use Rattle.std.proofs.Common.{◌≡◌, ◌⊎◌, inl, inr, ◌∙◌, ℕ, zero, suc, ◌/◌, ◌%◌, refl, sym, ap, ap₂, subst, arith, List, [], ◌∷◌, ◌++◌, map, replicate, take, Result, Ok, Err, OnOk}
+use Rattle.std.proofs.Common.{◌≡◌, ◌⊎◌, inl, inr, ◌∙◌, ℕ, zero, suc, ◌/◌, ◌%◌, refl, sym, ap, ap₂, subst, arith, List, [], ◌∷◌, ◌++◌, map, replicate, Result, Ok, Err, OnOk}
 use Rattle.std.specs.Int.{w32, to_le_bytes}
-use Rattle.oi_base.specs.declared.words.Width.TheVariants.{W1, W8, W16, W32}
 use Rattle.ir_core.specs.declared.constant.Const.{Const}
 use Rattle.ir_core.specs.declared.constant.Const as consts
 use Rattle.ir_core.specs.declared.flat.Scalar.{Scalar}
-use Rattle.ir_core.specs.declared.flat.Scalar.TheVariants.{Word, Pointer}
 use Rattle.ir_core.specs.declared.module.Module.{Module}
 use Rattle.ir_core.specs.declared.ty.IrType.{IrType}
 use Rattle.ir_core.specs.Constants.{initial_bytes}
 use Rattle.ir_core.specs.Sizes.{size}
-use Rattle.ir_core.specs.Memory.{Byte, PoisonByte, Octet, At, scalar_size, octets, stored}
+use Rattle.ir_core.specs.Memory.{Byte, PoisonByte, Octet, At, stored}
 use Rattle.rv_select.specs.Linked.{Link, address_of}
 use Rattle.image_layout.specs.DataBytes.{byte_in}
-
-four_bytes : (l : Link) (w : ℕ) → to_le_bytes w32 w ≡ map (byte_in l) (octets 4 w)
-four_bytes l w =
-    let a : w / 65536 ≡ w / 256 / 256 = omega arith in
-    let b : w / 16777216 ≡ w / 256 / 256 / 256 = omega arith in
-    ap₂ (λ (x y : ℕ). w % 256 ∷ w / 256 % 256 ∷ x % 256 ∷ y % 256 ∷ []) a b
-
--- of a word
-pub word_written : (l : Link) (s : Scalar) (w : ℕ) → take (scalar_size s) (to_le_bytes w32 w) ≡ map (byte_in l) (octets (scalar_size s) w)
-word_written l (Word W1) w = refl
-word_written l (Word W8) w = refl
-word_written l (Word W16) w = refl
-word_written l (Word W32) w = four_bytes l w
-word_written l Pointer w = four_bytes l w
 
 -- of a pointer
 pub address_written : (l : Link) (s : Scalar) (b o : ℕ) → to_le_bytes w32 (address_of l b o) ≡ map (byte_in l) (stored s (At b o))
