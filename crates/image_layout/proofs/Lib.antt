@@ -13,3 +13,5 @@ pub mod SymbolLists
 pub mod CodesLeft
 pub mod EntryTable
 pub mod LinkedAlike
+pub mod PlaceableGlobals
+pub mod GlobalNames

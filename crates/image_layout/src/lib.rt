@@ -2,8 +2,10 @@
 #![tactic(auto)]
 
 mod addresses;
+mod data;
 mod entries;
 mod faults;
+mod initialisers;
 mod laws;
 mod symbols;
 mod text;
