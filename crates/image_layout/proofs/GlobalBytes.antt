@@ -1,5 +1,5 @@
 -- The globals one after another: where each begins, and the bytes of the data so far.
-use Rattle.std.proofs.Common.{◌≡◌, ℕ, ◌+◌, ◌-◌, ◌≤◌, List, [], ◌∷◌, ◌++◌, map, replicate, length, length-append, append_assoc, All, refl, sym, ap, ap₂, ◌∙◌, subst, arith}
+use Rattle.std.proofs.Common.{◌≡◌, ℕ, ◌+◌, ◌-◌, ◌≤◌, List, [], ◌∷◌, ◌++◌, map, replicate, length, length-append, append_assoc, All, sym, ap, ap₂, ◌∙◌, subst, arith}
 use Rattle.std.specs.Int.{next_multiple_of}
 use Rattle.std.proofs.lemmas.List.{length-map, length-replicate}
 use Rattle.std.proofs.lemmas.List.Elements.{All-nil, All-cons, All-append}
@@ -48,9 +48,6 @@ module _ (m : Module) (g : GlobalVar) (rest : List GlobalVar) (placeable : IsPla
     low = All-append (λ (p : ℕ). p ≤ MOST_DATA) ps (place ∷ []) before.low (All-cons (λ (p : ℕ). p ≤ MOST_DATA) place [] (let most = next_low in omega (arith, most)) (All-nil (λ (p : ℕ). p ≤ MOST_DATA)));
     last = last_is;
   }
-
-pub none_placed : (m : Module) → Placing m [] 0 m.globals
-none_placed m = record { all = refl; low = All-nil (λ (p : ℕ). p ≤ MOST_DATA); last = refl }
 
 -- ---- bytes
 

@@ -44,10 +44,10 @@ module _ (m : Module) (valid : IsValid m) where
   -- ---- a global
 
   module _ (g : GlobalVar) (stands : Has m.globals g) where
-    inside : Contains m.globals g
+    pub inside : Contains m.globals g
     inside = contains m.globals g stands
 
-    typed : NotFalse (HasType m g.init g.ty)
+    pub typed : NotFalse (HasType m g.init g.ty)
     typed n = valid.initialisers g.place (g, inside, refl, n)
 
     pub aligned : IsAlign (aligned_as defs g.align g.ty)
@@ -56,7 +56,7 @@ module _ (m : Module) (valid : IsValid m) where
     used : (ts : List IrType) (t : IrType) → Has ts t → Has (value_uses g.place ts) (value_use g.place t)
     used ts t h = has_mapped (value_use g.place) ts t h
 
-    in_module : (t : IrType) → Has (g.ty ∷ const_types g.init) t → Has (type_uses m) (value_use g.place t)
+    pub in_module : (t : IrType) → Has (g.ty ∷ const_types g.init) t → Has (type_uses m) (value_use g.place t)
     in_module t h =
         let before = map (λ (d : TypeDef). value_use d.place d.ty) m.types.defs in
         let globals = flat_map (λ (x : GlobalVar). value_uses x.place (x.ty ∷ const_types x.init)) m.globals in
@@ -75,7 +75,7 @@ module _ (m : Module) (valid : IsValid m) where
     named (Struct' k ts) h = true_too tt
     named (Named x) h = struct_named m valid.type_names g.place (Named x) (in_module (Named x) h) x (contains (x ∷ []) x (inl refl))
 
-    names : NotFalse (Each (OkType m) (g.ty ∷ const_types g.init))
+    pub names : NotFalse (Each (OkType m) (g.ty ∷ const_types g.init))
     names = each_not_false (OkType m) (g.ty ∷ const_types g.init) named
 
     pub bytes_length : length (initial_bytes m g.ty g.init) ≡ size defs g.ty

@@ -122,7 +122,7 @@ module _ (m : Module) where
   scalar_fits (Struct' k ts) ok l e p = absurd (struct_is_none k ts (subst IsScalarType (itself (length defs) (Struct' k ts) refl) p))
   scalar_fits (Named x) ok l e p = absurd (not_struct (plain defs (Named x)) ok.0 p ok.1)
 
-  size_is : (t : IrType) (l : Layout) → layout defs t ≡ Some l → size defs t ≡ l.size
+  pub size_is : (t : IrType) (l : Layout) → layout defs t ≡ Some l → size defs t ≡ l.size
   size_is t l e = ap (λ (o : Option Layout). (unwrap_or o empty).size) e
 
   align_ok : (t : IrType) (l : Layout) → layout defs t ≡ Some l → IsAlign l.align

@@ -10,3 +10,8 @@ pub mod WrittenBytes
 pub mod GlobalBytes
 pub mod StructBytes
 pub mod SymbolLists
+pub mod CodesLeft
+pub mod EntryTable
+pub mod LinkedAlike
+pub mod PlaceableGlobals
+pub mod GlobalNames

@@ -1,5 +1,5 @@
 -- The bytes of a struct's fields so far, and the zeros after them.
-use Rattle.std.proofs.Common.{◌≡◌, ℕ, ◌+◌, ◌-◌, ◌≤◌, List, [], ◌∷◌, ◌++◌, map, replicate, length, length-append, append_assoc, append-nil, refl, sym, ap, ap₂, ◌∙◌, arith}
+use Rattle.std.proofs.Common.{◌≡◌, ℕ, ◌+◌, ◌-◌, ◌≤◌, List, [], ◌∷◌, ◌++◌, map, replicate, length, length-append, append_assoc, append-nil, refl, sym, ap, ap₂, ◌∙◌, subst, arith}
 use Rattle.std.specs.Int.{next_multiple_of}
 use Rattle.std.proofs.lemmas.List.{length-map, length-replicate, map-append}
 use Rattle.ir_core.specs.declared.constant.TypedConst.{TypedConst}
@@ -17,7 +17,7 @@ module _ (l : Link) (m : Module) where
   out bs = map (byte_in l) bs
 
   -- a field more
-  pub one_field : (start : ℕ) (c : TypedConst) (cs : List TypedConst) (bytes padded written all : List ℕ)
+  one_field : (start : ℕ) (c : TypedConst) (cs : List TypedConst) (bytes padded written all : List ℕ)
       → start ≤ length bytes
       → FillsType m c.ty c.value
       → padded ≡ bytes ++ replicate (next_multiple_of (length bytes - start) (align m.types.defs c.ty) - (length bytes - start)) 0
@@ -53,7 +53,7 @@ module _ (l : Link) (m : Module) where
       )
 
   -- the fields are all there
-  pub filled : (old bytes new : List ℕ) (size : ℕ) (fields : List Byte)
+  filled : (old bytes new : List ℕ) (size : ℕ) (fields : List Byte)
       → bytes ++ [] ≡ old ++ out fields
       → new ≡ bytes ++ replicate (size - (length bytes - length old)) 0
       → new ≡ old ++ out (filled_up size fields)
@@ -66,3 +66,32 @@ module _ (l : Link) (m : Module) where
       ∙ ap₂ (λ (bs : List ℕ) (n : ℕ). bs ++ replicate (size - n) 0) whole count
       ∙ append_assoc old (out fields) (replicate (size - length fields) 0)
       ∙ ap (λ (bs : List ℕ). old ++ bs) (ap (λ (bs : List ℕ). out fields ++ bs) (sym (copies_written l Unset (size - length fields) refl)) ∙ sym (map-append (byte_in l) fields (gap (size - length fields))))
+
+  -- the same of a field that is the first of those left, whose alignment was asked for
+  pub next_field : (start : ℕ) (c : TypedConst) (cs left : List TypedConst) (a : ℕ) (bytes padded written all : List ℕ)
+      → left ≡ c ∷ cs
+      → a ≡ align m.types.defs c.ty
+      → start ≤ length bytes
+      → FillsType m c.ty c.value
+      → padded ≡ bytes ++ replicate (next_multiple_of (length bytes - start) a - (length bytes - start)) 0
+      → written ≡ padded ++ out (initial_bytes m c.ty c.value)
+      → bytes ++ out (fields_from m (length bytes - start) left) ≡ all
+      → (start ≤ length written) × (written ++ out (fields_from m (length written - start) cs) ≡ all)
+  next_field start c cs left a bytes padded written all first aligned low fills p w before =
+      let from = length bytes - start in
+      one_field start c cs bytes padded written all low fills
+      (subst (λ (k : ℕ). padded ≡ bytes ++ replicate (next_multiple_of from k - from) 0) aligned p)
+      w
+      (subst (λ (fs : List TypedConst). bytes ++ out (fields_from m from fs) ≡ all) first before)
+
+  -- and of the zeros where none is left, and the size was asked for
+  pub all_filled : (start at count size : ℕ) (left : List TypedConst) (old bytes new : List ℕ) (fields : List Byte)
+      → left ≡ []
+      → start ≡ length old
+      → count ≡ size
+      → bytes ++ out (fields_from m at left) ≡ old ++ out fields
+      → new ≡ bytes ++ replicate (count - (length bytes - start)) 0
+      → new ≡ old ++ out (filled_up size fields)
+  all_filled start at count size left old bytes new fields none begun sized before w =
+      filled old bytes new size fields (subst (λ (fs : List TypedConst). bytes ++ out (fields_from m at fs) ≡ old ++ out fields) none before)
+      (w ∙ ap₂ (λ (n s : ℕ). bytes ++ replicate (n - (length bytes - s)) 0) sized begun)

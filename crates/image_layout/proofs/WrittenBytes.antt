@@ -1,26 +1,16 @@
 -- The numbers that bytes of memory become in the data.
-use Rattle.std.proofs.Common.{◌≡◌, ℕ, zero, suc, ◌/◌, ◌%◌, refl, sym, ap, ap₂, arith, List, [], ◌∷◌, map, replicate, take}
+use Rattle.std.proofs.Common.{◌≡◌, ◌⊎◌, inl, inr, ◌∙◌, ℕ, zero, suc, ◌/◌, ◌%◌, refl, sym, ap, ap₂, subst, arith, List, [], ◌∷◌, ◌++◌, map, replicate, Result, Ok, Err, OnOk}
 use Rattle.std.specs.Int.{w32, to_le_bytes}
-use Rattle.oi_base.specs.declared.words.Width.TheVariants.{W1, W8, W16, W32}
+use Rattle.ir_core.specs.declared.constant.Const.{Const}
+use Rattle.ir_core.specs.declared.constant.Const as consts
 use Rattle.ir_core.specs.declared.flat.Scalar.{Scalar}
-use Rattle.ir_core.specs.declared.flat.Scalar.TheVariants.{Word, Pointer}
-use Rattle.ir_core.specs.Memory.{Byte, Octet, At, scalar_size, octets, stored}
+use Rattle.ir_core.specs.declared.module.Module.{Module}
+use Rattle.ir_core.specs.declared.ty.IrType.{IrType}
+use Rattle.ir_core.specs.Constants.{initial_bytes}
+use Rattle.ir_core.specs.Sizes.{size}
+use Rattle.ir_core.specs.Memory.{Byte, PoisonByte, Octet, At, stored}
 use Rattle.rv_select.specs.Linked.{Link, address_of}
 use Rattle.image_layout.specs.DataBytes.{byte_in}
-
-four_bytes : (l : Link) (w : ℕ) → to_le_bytes w32 w ≡ map (byte_in l) (octets 4 w)
-four_bytes l w =
-    let a : w / 65536 ≡ w / 256 / 256 = omega arith in
-    let b : w / 16777216 ≡ w / 256 / 256 / 256 = omega arith in
-    ap₂ (λ (x y : ℕ). w % 256 ∷ w / 256 % 256 ∷ x % 256 ∷ y % 256 ∷ []) a b
-
--- of a word
-pub word_written : (l : Link) (s : Scalar) (w : ℕ) → take (scalar_size s) (to_le_bytes w32 w) ≡ map (byte_in l) (octets (scalar_size s) w)
-word_written l (Word W1) w = refl
-word_written l (Word W8) w = refl
-word_written l (Word W16) w = refl
-word_written l (Word W32) w = four_bytes l w
-word_written l Pointer w = four_bytes l w
 
 -- of a pointer
 pub address_written : (l : Link) (s : Scalar) (b o : ℕ) → to_le_bytes w32 (address_of l b o) ≡ map (byte_in l) (stored s (At b o))
@@ -33,3 +23,18 @@ copies_written l b (suc n) e = ap₂ (λ (x : ℕ) (xs : List ℕ). x ∷ xs) e 
 pub numbers_written : (l : Link) (bs : List ℕ) → map (byte_in l) (map Octet bs) ≡ bs
 numbers_written l [] = refl
 numbers_written l (b ∷ bs) = ap (λ (xs : List ℕ). b ∷ xs) (numbers_written l bs)
+
+-- of an initialiser that is zero, `undef` or poison
+pub blank_written : (l : Link) (m : Module) (t : IrType) (c : Const) → (c ≡ consts.Zero) ⊎ ((c ≡ consts.Undef) ⊎ (c ≡ consts.Poison)) → map (byte_in l) (initial_bytes m t c) ≡ replicate (size m.types.defs t) 0
+blank_written l m t c (inl e) = ap (λ (k : Const). map (byte_in l) (initial_bytes m t k)) e ∙ copies_written l (Octet 0) (size m.types.defs t) refl
+blank_written l m t c (inr (inl e)) = ap (λ (k : Const). map (byte_in l) (initial_bytes m t k)) e ∙ copies_written l (Octet 0) (size m.types.defs t) refl
+blank_written l m t c (inr (inr e)) = ap (λ (k : Const). map (byte_in l) (initial_bytes m t k)) e ∙ copies_written l PoisonByte (size m.types.defs t) refl
+
+-- what follows from a fact of a success
+pub ok_too : {T E P Q : Type 0} (r : Result T E) → (P → Q) → OnOk r P → OnOk r Q
+ok_too (Ok x) f h = f h
+ok_too (Err e) f h = h
+
+-- what is appended, as equal bytes of memory
+pub written_too : {T E : Type 0} (l : Link) (r : Result T E) (new old : List ℕ) {xs ys : List Byte} → xs ≡ ys → OnOk r (new ≡ old ++ map (byte_in l) xs) → OnOk r (new ≡ old ++ map (byte_in l) ys)
+written_too l r new old e h = subst (λ (zs : List Byte). OnOk r (new ≡ old ++ map (byte_in l) zs)) e h

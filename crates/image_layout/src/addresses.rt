@@ -1,8 +1,10 @@
-ghost use Rattle.std.specs.Prelude.{◌≡◌, ◌≤◌, All};
+ghost use Rattle.std.specs.Prelude.{◌≡◌, ◌≤◌, nat_eq, All};
+ghost use Rattle.std.specs.List.{position_or_len};
 ghost use Rattle.ir_core.specs.declared.limits.TheConstants.{MOST_DATA};
 ghost use Rattle.rv_select.specs.Linked.{address_of};
 ghost use Rattle.image_layout.specs.Addresses.{link_in};
 
+use ir_core::SymId;
 use module_rules::Numbers;
 use oi_base::FuncId;
 use rv_isa::DATA_START;
@@ -60,5 +62,16 @@ impl Addresses {
         ensures { result ≡ address_of (link_in self.now) global offset }
     {
         self.global_at(global).wrapping_add(offset)
+    }
+
+    /// The number of the global with a name, or the number of all globals.
+    #[tactic(auto, using(crate::proofs::GlobalNames::not_among))]
+    pub(crate) fn number_of(&self, name: SymId) -> usize
+        ensures { result ≡ position_or_len (nat_eq name.0) self.now.names }
+    {
+        match self.names.position(name.0) {
+            Some(number) => number,
+            None => self.names.as_slice().len(),
+        }
     }
 }

@@ -2,10 +2,15 @@
 #![tactic(auto)]
 
 mod addresses;
+mod data;
+mod entries;
 mod faults;
+mod imaging;
+mod initialisers;
 mod laws;
 mod symbols;
 mod text;
 
 pub use faults::ImageFault;
+pub use imaging::image;
 pub use laws::{an_image_is_laid, an_image_is_within_bounds};
