@@ -4,5 +4,6 @@ pub mod Folds
 pub mod InPlace
 pub mod Shapes
 pub mod Tables
+pub mod Unchanged
 pub mod WithFacts
 pub mod WithOperands

@@ -1,8 +1,8 @@
 -- Tables that hold facts.
-use Rattle.std.proofs.Common.{◌≡◌, ◌≢◌, ℕ, Bool, true, false, nat_eq, if◌then◌else◌, List, Option, Some, refl, ap, ◌∙◌, arith}
+use Rattle.std.proofs.Common.{◌≡◌, ◌≢◌, ℕ, Bool, true, false, nat_eq, if◌then◌else◌, List, [], Option, Some, refl, ap, ◌∙◌, arith}
 use Rattle.std.proofs.lemmas.Bool.Decides.{nat_tests}
 use Rattle.ir_core.specs.declared.flat.FlatOp.{FlatOp}
-use Rattle.const_fold.specs.FoldConstants.{Facts, with_fact}
+use Rattle.const_fold.specs.FoldConstants.{Facts, no_facts, with_fact}
 use Rattle.const_fold.specs.FactTables.{facts_of}
 
 -- facts that are the same but for one register
@@ -15,3 +15,7 @@ by_point new old r c same others = λ i q. at q (nat_eq q r) refl i
 
 pub with_fact_is : (new old : List (Option FlatOp)) (r : ℕ) (c : FlatOp) → facts_of new r ≡ Some c → ((q : ℕ) → q ≢ r → facts_of new q ≡ facts_of old q) → facts_of new ≡ with_fact (facts_of old) r c
 with_fact_is new old r c same others = by_point (facts_of new) (facts_of old) r c same others
+
+-- an empty table knows nothing
+pub nothing_known : (table : List (Option FlatOp)) → table ≡ [] → facts_of table ≡ no_facts
+nothing_known table e = λ i q. ap (λ t. facts_of t q) e i

@@ -1,4 +1,4 @@
-ghost use Rattle.std.specs.Prelude.{◌≡◌, ◌≢◌, ℕ, OnOk, Some};
+ghost use Rattle.std.specs.Prelude.{◌≡◌, ◌≢◌, ℕ, OnOk, Some, true};
 ghost use Rattle.const_fold.specs.FoldConstants.{no_facts, with_fact, known};
 ghost use Rattle.const_fold.specs.FactTables.{facts_in, facts_of};
 
@@ -19,6 +19,14 @@ impl FactTable {
         FactTable {
             table: Vec::new(alloc),
         }
+    }
+
+    /// Whether nothing was noted.
+    #[tactic(auto, using(crate::proofs::Tables::nothing_known))]
+    pub fn is_empty(&self) -> bool
+        ensures { result ≡ true → facts_in self.now ≡ no_facts }
+    {
+        self.table.is_empty()
     }
 
     /// An operand, or what is known of it.

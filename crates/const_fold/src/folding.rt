@@ -1,10 +1,12 @@
-ghost use Rattle.std.specs.Prelude.{◌≡◌, IfOk, OnOk, map};
-ghost use Rattle.const_fold.specs.FoldConstants.{entry_with, phi_with, instr_with, block_with, constants_folded};
+ghost use Rattle.std.specs.Prelude.{◌≡◌, IfOk, OnOk, false, map};
+ghost use Rattle.const_fold.specs.FoldConstants.{entry_with, phi_with, instr_with, block_with, body_with, constants_folded};
 ghost use Rattle.const_fold.specs.FactTables.{facts_in};
 
 use crate::fact_table::FactTable;
 use crate::order::reversed;
+use crate::passed::Passed;
 use crate::rewrite::{end_with, instr_with};
+use crate::shortening::any_shortens;
 use crate::sweep::all_facts;
 use ir_core::{Entries, Entry, FlatBlock, FlatBlocks, FlatBody, FlatCode, Phi, Phis};
 use oi_base::NoMemory;
@@ -80,6 +82,43 @@ fn fold_blocks(
     Ok(new)
 }
 
+/// A body with its constants folded by these facts.
+fn folded(alloc: Global, facts: &FactTable, b: FlatBody) -> Result<FlatBody, NoMemory>
+    ensures { IfOk result (λ new. new ≡ body_with (facts_in facts.now) b) }
+{
+    let FlatBody {
+        params,
+        regs,
+        blocks,
+    } = b;
+    let blocks = fold_blocks(alloc, facts, blocks)?;
+    Ok(FlatBody {
+        params,
+        regs,
+        blocks,
+    })
+}
+
+/// Folds constants as `fold_constants` does, and tells whether there was something to fold. Where no register has a fact and
+/// no instruction has a shorter form, the body is only read.
+#[tactic(auto, unfolding(crate::specs::FoldConstants::constants_folded))]
+pub fn constants_pass(alloc: Global, b: FlatBody) -> Result<Passed, NoMemory>
+    ensures body { IfOk result (λ p. p.body ≡ constants_folded b) }
+    ensures same { IfOk result (λ p. p.changed ≡ false → p.body ≡ b) }
+{
+    let facts = all_facts(alloc, b.blocks.as_slice())?;
+    if facts.is_empty() && !any_shortens(b.blocks.as_slice()) {
+        return Ok(Passed {
+            body: b,
+            changed: false,
+        });
+    }
+    Ok(Passed {
+        body: folded(alloc, &facts, b)?,
+        changed: true,
+    })
+}
+
 /// Folds constants.
 ///
 /// One sweep visits the instructions in body order, phis first in a block. A register has a fact, which is a constant (a
@@ -88,20 +127,9 @@ fn fold_blocks(
 /// entries are all one constant; or an address of a global with words as terms. Then each operand with a fact is replaced, in
 /// all the body. The terms of an address that are words are added to its constant part; an address that moves its base by
 /// nothing, and a select on a word, become copies.
-#[tactic(auto, unfolding(crate::specs::FoldConstants::constants_folded))]
 pub fn fold_constants(alloc: Global, b: FlatBody) -> Result<FlatBody, NoMemory>
     ensures { IfOk result (λ new. new ≡ constants_folded b) }
 {
-    let FlatBody {
-        params,
-        regs,
-        blocks,
-    } = b;
-    let facts = all_facts(alloc, blocks.as_slice())?;
-    let blocks = fold_blocks(alloc, &facts, blocks)?;
-    Ok(FlatBody {
-        params,
-        regs,
-        blocks,
-    })
+    let Passed { body, changed: _ } = constants_pass(alloc, b)?;
+    Ok(body)
 }

@@ -15,5 +15,6 @@ pub mod Namings
 pub mod Numbers
 pub mod OneMerge
 pub mod Reaching
+pub mod Settled
 pub mod Walking
 pub mod Ways

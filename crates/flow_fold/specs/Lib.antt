@@ -5,6 +5,7 @@ pub mod FoldBranches
 pub mod MergeBlocks
 pub mod Merges
 pub mod Numbering
+pub mod Settled
 pub mod Targets
 pub mod Walks
 pub mod Ways

@@ -1,12 +1,14 @@
-ghost use Rattle.std.specs.Prelude.{◌≡◌, ◌<◌, ◌≤◌, ◌^◌, IfOk, length};
+ghost use Rattle.std.specs.Prelude.{◌≡◌, ◌<◌, ◌≤◌, ◌^◌, IfOk, false, length};
+ghost use Rattle.std.specs.List.{list_any};
 ghost use Rattle.ir_core.specs.WellFormed.{IsWellFormed};
 ghost use Rattle.flow_fold.specs.Blocks.{by_number};
 ghost use Rattle.flow_fold.specs.Changes.{changes, block_changed};
 ghost use Rattle.flow_fold.specs.FoldBranches.{branches_folded};
+ghost use Rattle.flow_fold.specs.Settled.{is_decided};
 
 use crate::entries::drop_entries;
 use crate::terminators::{change, decided};
-use const_fold::reversed;
+use const_fold::{Passed, reversed};
 use ir_core::{FlatBlock, FlatBlocks, FlatBody};
 use oi_base::{BlockId, NoMemory};
 use std::alloc::{AllocError, Global};
@@ -57,13 +59,9 @@ fn decided_blocks(
     Ok(new)
 }
 
-/// Folds branches.
-///
-/// A conditional branch on a word, or to two equal blocks, becomes a plain branch; a switch on a word becomes a branch to the
-/// word's case or the default, and a switch without cases one to its default. Where the last edge from one block to another
-/// goes, the entries of that block in the other's phis go too.
+/// The body with its branches folded.
 #[tactic(auto, using(crate::proofs::ByChanges::folded_so))]
-pub fn fold_branches(alloc: Global, b: FlatBody) -> Result<FlatBody, NoMemory>
+fn folded(alloc: Global, b: FlatBody) -> Result<FlatBody, NoMemory>
     requires formed { IsWellFormed b }
     ensures { IfOk result (λ new. new ≡ branches_folded b) }
 {
@@ -79,4 +77,49 @@ pub fn fold_branches(alloc: Global, b: FlatBody) -> Result<FlatBody, NoMemory>
         regs,
         blocks,
     })
+}
+
+/// Whether some terminator is decided.
+fn any_decided(blocks: &[FlatBlock]) -> bool
+    ensures { result ≡ list_any is_decided blocks.now }
+{
+    for block in blocks {
+        if change(&block.end).is_some() {
+            return true;
+        }
+    }
+    false
+}
+
+/// Folds branches as `fold_branches` does, and tells whether there were some to fold. Where there were none, the body is only
+/// read.
+pub fn branches_pass(alloc: Global, b: FlatBody) -> Result<Passed, NoMemory>
+    requires formed { IsWellFormed b }
+    ensures body { IfOk result (λ p. p.body ≡ branches_folded b) }
+    ensures same { IfOk result (λ p. p.changed ≡ false → p.body ≡ b) }
+{
+    if any_decided(b.blocks.as_slice()) {
+        Ok(Passed {
+            body: folded(alloc, b)?,
+            changed: true,
+        })
+    } else {
+        Ok(Passed {
+            body: b,
+            changed: false,
+        })
+    }
+}
+
+/// Folds branches.
+///
+/// A conditional branch on a word, or to two equal blocks, becomes a plain branch; a switch on a word becomes a branch to the
+/// word's case or the default, and a switch without cases one to its default. Where the last edge from one block to another
+/// goes, the entries of that block in the other's phis go too.
+pub fn fold_branches(alloc: Global, b: FlatBody) -> Result<FlatBody, NoMemory>
+    requires formed { IsWellFormed b }
+    ensures { IfOk result (λ new. new ≡ branches_folded b) }
+{
+    let Passed { body, changed: _ } = branches_pass(alloc, b)?;
+    Ok(body)
 }

@@ -14,10 +14,10 @@ mod renaming;
 mod terminators;
 mod walk;
 
-pub use branches::fold_branches;
+pub use branches::{branches_pass, fold_branches};
 pub use laws::{
     folded_branches_are_formed, merged_blocks_are_formed, reached_blocks_are_formed,
     reached_blocks_have_paths,
 };
-pub use merging::merge_blocks;
-pub use reached::drop_unreached;
+pub use merging::{merge_blocks, merging_pass};
+pub use reached::{drop_unreached, unreached_pass};

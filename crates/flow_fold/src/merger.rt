@@ -90,7 +90,7 @@ fn join_at(alloc: Global, blocks: &mut Vec<FlatBlock>, n: usize, m: usize) -> Re
 }
 
 /// The block that is merged next into block n.
-fn next_merge(n: BlockId, counts: &[u32], block: &FlatBlock) -> Option<BlockId>
+pub fn next_merge(n: BlockId, counts: &[u32], block: &FlatBlock) -> Option<BlockId>
     ensures { option_map (λ m. m.0) result ≡ next_merge n.0 counts.now block.now }
 {
     match &block.end {

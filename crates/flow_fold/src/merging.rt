@@ -1,18 +1,18 @@
-ghost use Rattle.std.specs.Prelude.{◌≡◌, ◌<◌, ◌^◌, ℕ, Contains, IfOk, Some, length, nat_lt, replicate, slice_get, true};
+ghost use Rattle.std.specs.Prelude.{◌≡◌, ◌<◌, ◌^◌, ℕ, Contains, IfOk, Some, None, length, nat_lt, replicate, slice_get, true, false};
 ghost use Rattle.ir_core.specs.declared.flat.FlatBlock as flat;
 ghost use Rattle.ir_core.specs.Formed.{targets};
 ghost use Rattle.ir_core.specs.WellFormed.{IsWellFormed};
 ghost use Rattle.flow_fold.specs.MergeBlocks.{Merging, blocks_merged};
 ghost use Rattle.flow_fold.specs.Blocks.{only_blocks};
-ghost use Rattle.flow_fold.specs.Merges.{IsSound, Shows};
+ghost use Rattle.flow_fold.specs.Merges.{next_merge, IsSound, Shows};
 
 use crate::counts::edge_counts;
-use crate::merger::Merger;
+use crate::merger::{Merger, next_merge};
 use crate::remaining::only_blocks;
 use crate::renaming::{names, renamed_blocks};
-use const_fold::reversed;
+use const_fold::{Passed, reversed};
 use ir_core::{FlatBlock, FlatBlocks, FlatBody};
-use oi_base::{Items, NoMemory};
+use oi_base::{BlockId, Items, NoMemory};
 use std::alloc::{AllocError, Global};
 
 fn into_vec(alloc: Global, blocks: FlatBlocks) -> Result<Vec<FlatBlock>, AllocError>
@@ -73,12 +73,8 @@ fn finished(alloc: Global, params: u32, regs: u32, merger: Merger) -> Result<Fla
     Ok(only_blocks(alloc, left.as_slice(), body)?)
 }
 
-/// Merges blocks.
-///
-/// For each block in body order, while it ends in a plain branch to another block that isn't the entry and of which it is the
-/// only predecessor, that block is merged into it: its phis become copies in order, its code and terminator follow, and
-/// entries of phis that named it name the merging block, which keeps its place. Blocks are numbered anew by position.
-pub fn merge_blocks(alloc: Global, b: FlatBody) -> Result<FlatBody, NoMemory>
+/// The body with its blocks merged.
+fn merged(alloc: Global, b: FlatBody) -> Result<FlatBody, NoMemory>
     requires formed { IsWellFormed b }
     ensures { IfOk result (λ new. new ≡ blocks_merged b) }
 {
@@ -91,4 +87,51 @@ pub fn merge_blocks(alloc: Global, b: FlatBody) -> Result<FlatBody, NoMemory>
     merger.merge_all(alloc)?;
     let new = finished(alloc, params, regs, merger)?;
     Ok(new)
+}
+
+/// Whether some block is to be merged into another, by how many edges lead to each.
+fn any_merge(counts: &[u32], blocks: &[FlatBlock]) -> bool
+    requires few { length blocks.now < 2 ^ 32 }
+    ensures none { result ≡ false → (n : ℕ) (k : flat.FlatBlock) → slice_get blocks.now n ≡ Some k → next_merge n counts.now k ≡ None }
+{
+    for n in 0..blocks.len() {
+        if next_merge(BlockId(n as u32), counts, &blocks[n]).is_some() {
+            return true;
+        }
+    }
+    false
+}
+
+/// Merges blocks as `merge_blocks` does, and tells whether there were some to merge. Where there were none, the body is only
+/// read.
+pub fn merging_pass(alloc: Global, b: FlatBody) -> Result<Passed, NoMemory>
+    requires formed { IsWellFormed b }
+    ensures body { IfOk result (λ p. p.body ≡ blocks_merged b) }
+    ensures same { IfOk result (λ p. p.changed ≡ false → p.body ≡ b) }
+{
+    let counts = edge_counts(alloc, b.blocks.as_slice())?;
+    if any_merge(counts.as_slice(), b.blocks.as_slice()) {
+        Ok(Passed {
+            body: merged(alloc, b)?,
+            changed: true,
+        })
+    } else {
+        Ok(Passed {
+            body: b,
+            changed: false,
+        })
+    }
+}
+
+/// Merges blocks.
+///
+/// For each block in body order, while it ends in a plain branch to another block that isn't the entry and of which it is the
+/// only predecessor, that block is merged into it: its phis become copies in order, its code and terminator follow, and
+/// entries of phis that named it name the merging block, which keeps its place. Blocks are numbered anew by position.
+pub fn merge_blocks(alloc: Global, b: FlatBody) -> Result<FlatBody, NoMemory>
+    requires formed { IsWellFormed b }
+    ensures { IfOk result (λ new. new ≡ blocks_merged b) }
+{
+    let Passed { body, changed: _ } = merging_pass(alloc, b)?;
+    Ok(body)
 }

@@ -12,5 +12,6 @@ pub mod Sublists
 pub mod DeadFormed
 pub mod CopyLaws
 pub mod NoCopies
+pub mod NoneDead
 pub mod Rounds
 pub mod RoundsFormed

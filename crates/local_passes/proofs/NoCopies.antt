@@ -1,6 +1,6 @@
 -- Code without copies of registers stays as it is.
 use Rattle.std.proofs.Common.{◌≡◌, ℕ, zero, suc, Bool, true, false, not, ◌&&◌, ◌||◌, nat_eq, if◌then◌else◌, List, [], ◌∷◌, map, length, Option, Some, None, slice_get, refl, sym, ap, ap₂, ◌∙◌, arith}
-use Rattle.std.specs.List.{list_any}
+use Rattle.std.specs.List.{list_any, AllByRecursion as Each}
 use Rattle.std.proofs.lemmas.Bool.Decides.{nat_tests}
 use Rattle.ir_core.specs.declared.flat.FlatOp.{FlatOp}
 use Rattle.ir_core.specs.declared.flat.FlatOp.TheVariants.{Reg, Word, Null, Address, Poison}
@@ -13,8 +13,10 @@ use Rattle.ir_core.specs.declared.flat.FlatEnd.{FlatEnd}
 use Rattle.ir_core.specs.declared.flat.FlatEnd.TheVariants.{Ret, Br, Cond, Switch, Unreachable}
 use Rattle.ir_core.specs.declared.flat.FlatBlock.{FlatBlock}
 use Rattle.ir_core.specs.declared.flat.FlatBody.{FlatBody}
-use Rattle.ir_core.specs.Formed.{written_by}
-use Rattle.const_fold.specs.Operands.{with_operand, with_operands, end_with_operands}
+use Rattle.ir_core.specs.Formed.{written_by, used_by, used_at_end}
+use Rattle.ir_core.proofs.Lists.{each_from}
+use Rattle.const_fold.specs.Operands.{with_operands, end_with_operands}
+use Rattle.const_fold.proofs.Unchanged.{map_same, map_same_at, none_passes, instr_same, end_same}
 use Rattle.flow_fold.specs.Blocks.{by_number}
 use Rattle.local_passes.specs.declared.copy_table.Span.{Span}
 use Rattle.local_passes.specs.declared.copy_table.CopyTable.{CopyTable}
@@ -24,26 +26,9 @@ use Rattle.local_passes.proofs.CopySteps.{fresh}
 
 -- ---- lists
 
-map_same : {A : Type 0} (f : A → A) → ((x : A) → f x ≡ x) → (xs : List A) → map f xs ≡ xs
-map_same f same [] = refl
-map_same f same (x ∷ xs) = ap₂ (λ y ys. y ∷ ys) (same x) (map_same f same xs)
-
 number_same : {A : Type 0} (f : ℕ → A → A) → ((n : ℕ) (x : A) → f n x ≡ x) → (m : ℕ) (xs : List A) → by_number f m xs ≡ xs
 number_same f same m [] = refl
 number_same f same m (x ∷ xs) = ap₂ (λ y ys. y ∷ ys) (same m x) (number_same f same (suc m) xs)
-
-none_passes : {A : Type 0} (p : A → Bool) (xs : List A) (n : ℕ) (x : A) → list_any p xs ≡ false → slice_get xs n ≡ Some x → p x ≡ false
-none_passes p [] n x e at = absurd cc
-none_passes p (y ∷ ys) zero x e at = let same : y ≡ x = cc in ap p (sym same) ∙ first (p y) (list_any p ys) e
-  where
-    first : (s t : Bool) → (s || t) ≡ false → s ≡ false
-    first false t e = refl
-    first true t e = e
-none_passes p (y ∷ ys) (suc n) x e at = none_passes p ys n x (rest (p y) (list_any p ys) e) at
-  where
-    rest : (s t : Bool) → (s || t) ≡ false → t ≡ false
-    rest false t e = e
-    rest true t e = absurd (let none : true ≡ false = e in cc)
 
 -- ---- the same operands
 
@@ -54,23 +39,8 @@ same_operand Null = refl
 same_operand (Address g k) = refl
 same_operand Poison = refl
 
-same_term : (t : Term) → with_operand (from_source no_copies) t ≡ t
-same_term t = ap (λ o. record t { operand = o }) (same_operand t.operand)
-
-same_instr : (i : FlatInstr) → with_operands (from_source no_copies) i ≡ i
-same_instr (Bin d op w a b) = ap₂ (Bin d op w) (same_operand a) (same_operand b)
-same_instr (Icmp d c s a b) = ap₂ (Icmp d c s) (same_operand a) (same_operand b)
-same_instr (Select d c a b) = ap (λ o. Select d o (from_source no_copies a) (from_source no_copies b)) (same_operand c) ∙ ap₂ (Select d c) (same_operand a) (same_operand b)
-same_instr (Cast d c from to a) = ap (Cast d c from to) (same_operand a)
-same_instr (Copy d a) = ap (Copy d) (same_operand a)
-same_instr (Alloca d size align) = refl
-same_instr (Load d s align a) = ap (Load d s align) (same_operand a)
-same_instr (Store s align v a) = ap₂ (Store s align) (same_operand v) (same_operand a)
-same_instr (Gep d a k ts) = ap₂ (λ o us. Gep d o k us) (same_operand a) (map_same (with_operand (from_source no_copies)) same_term ts)
-same_instr (Call d f args) = ap (Call d f) (map_same (from_source no_copies) same_operand args)
-same_instr (Put d a) = ap (Put d) (same_operand a)
-same_instr (Get d) = refl
-same_instr (Exit a) = ap Exit (same_operand a)
+all_same : (os : List FlatOp) → Each (λ o. from_source no_copies o ≡ o) os
+all_same os = each_from (λ o. from_source no_copies o ≡ o) os (λ o in_os. same_operand o)
 
 abbrev no_ends_at : ℕ → Sources
 no_ends_at b = no_copies
@@ -125,7 +95,7 @@ module _ (code : List FlatInstr) (none : list_any copies_register code ≡ false
   no_source (suc n) = ap (λ s. past s (slice_get code n)) (no_source n) ∙ past_same (slice_get code n) (λ i at. none_passes copies_register code n i none at)
 
   pub code_same : code ≡ code_copied code
-  code_same = sym (number_same (instr_copied code) (λ n i. ap (λ s. with_operands (from_source s) i) (no_source n) ∙ same_instr i) 0 code)
+  code_same = sym (number_same (instr_copied code) (λ n i. ap (λ s. with_operands (from_source s) i) (no_source n) ∙ instr_same (from_source no_copies) i (all_same (used_by i))) 0 code)
 
   -- nothing is noted, and no register is a copy
   pub idle_sources : (t : CopyTable) → sources_in t t.time ≡ source code (length code)
@@ -161,18 +131,6 @@ module _ (t : CopyTable) (timed : IsTimed t) (zero_time : t.time ≡ 0) where
 
 -- ---- bodies without copies
 
-map_same_at : {A : Type 0} (f : A → A) (xs : List A) → ((n : ℕ) (x : A) → slice_get xs n ≡ Some x → f x ≡ x) → map f xs ≡ xs
-map_same_at f [] same = refl
-map_same_at f (x ∷ xs) same = ap₂ (λ y ys. y ∷ ys) (same 0 x refl) (map_same_at f xs (λ n y at. same (suc n) y at))
-
-same_end : (e : FlatEnd) → end_with_operands (from_source no_copies) e ≡ e
-same_end (Ret None) = refl
-same_end (Ret (Some a)) = ap (λ o. Ret (Some o)) (same_operand a)
-same_end (Br b) = refl
-same_end (Cond c t f) = ap (λ o. Cond o t f) (same_operand c)
-same_end (Switch a w cases other) = ap (λ o. Switch o w cases other) (same_operand a)
-same_end Unreachable = refl
-
 pub body_same : (b : FlatBody) → list_any block_copies b.blocks ≡ false → b ≡ copies_replaced b
 unfolding copies_replaced
 body_same b none = ap (λ (ks : List FlatBlock). record b { blocks = ks }) (sym (ap (λ e. map (block_copied e) b.blocks) ends ∙ map_same_at (block_copied no_ends_at) b.blocks block_same))
@@ -189,4 +147,4 @@ body_same b none = ap (λ (ks : List FlatBlock). record b { blocks = ks }) (sym 
         let idle = none_passes block_copies b.blocks n k none at in
         ap (λ fs. record { phis = fs; code = code_copied k.code; end = end_with_operands (from_source (end_sources k)) k.end }) (map_same (phi_copied no_ends_at) phi_same k.phis)
         ∙ ap (λ is. record { phis = k.phis; code = is; end = end_with_operands (from_source (end_sources k)) k.end }) (sym (code_same k.code idle))
-        ∙ ap (λ e. record { phis = k.phis; code = k.code; end = e }) (ap (λ s. end_with_operands (from_source s) k.end) (no_source k.code idle (length k.code)) ∙ same_end k.end)
+        ∙ ap (λ e. record { phis = k.phis; code = k.code; end = e }) (ap (λ s. end_with_operands (from_source s) k.end) (no_source k.code idle (length k.code)) ∙ end_same (from_source no_copies) k.end (all_same (used_at_end k.end)))

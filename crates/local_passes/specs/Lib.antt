@@ -1,4 +1,5 @@
 pub mod CopyTables
+pub mod DeadTests
 pub mod DropDead
 pub mod LocalCopies
 pub mod NeedTables

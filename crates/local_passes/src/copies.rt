@@ -1,4 +1,4 @@
-ghost use Rattle.std.specs.Prelude.{◌≡◌, ◌≢◌, ◌++◌, ◌∷◌, [], ℕ, List, IfOk, OnOk, AllPairs, length, map};
+ghost use Rattle.std.specs.Prelude.{◌≡◌, ◌≢◌, ◌++◌, ◌∷◌, [], ℕ, List, IfOk, OnOk, AllPairs, false, length, map};
 ghost use Rattle.std.specs.List.{flat_map, list_any};
 ghost use Rattle.ir_core.specs.declared.flat.FlatBlock as flat;
 ghost use Rattle.ir_core.specs.WellFormed.{IsWellFormed};
@@ -8,7 +8,7 @@ ghost use Rattle.local_passes.specs.LocalCopies.{source, code_copied, end_source
 use crate::copied_phis::blocks_with_phis;
 use crate::copy_table::{CopyTable, Span};
 use crate::sources::{end_from_source, instr_from_source};
-use const_fold::reversed;
+use const_fold::{Passed, reversed};
 use ir_core::{FlatBlock, FlatBlocks, FlatBody, FlatCode, FlatInstr, FlatOp};
 use oi_base::NoMemory;
 use std::alloc::Global;
@@ -169,6 +169,26 @@ fn any_copies(blocks: &[FlatBlock]) -> bool
     false
 }
 
+/// Replaces local copies as `local_copies` does, and tells whether there is a copy of a register. Where there is none, the body
+/// is only read.
+pub fn copies_pass(alloc: Global, b: FlatBody) -> Result<Passed, NoMemory>
+    requires formed { IsWellFormed b }
+    ensures body { IfOk result (λ p. p.body ≡ copies_replaced b) }
+    ensures same { IfOk result (λ p. p.changed ≡ false → p.body ≡ b) }
+{
+    if any_copies(b.blocks.as_slice()) {
+        Ok(Passed {
+            body: replaced(alloc, b)?,
+            changed: true,
+        })
+    } else {
+        Ok(Passed {
+            body: b,
+            changed: false,
+        })
+    }
+}
+
 /// Replaces local copies.
 ///
 /// At each place of a block a register that is a copy of another there is replaced by that one. It is one from the copy on,
@@ -178,9 +198,6 @@ pub fn local_copies(alloc: Global, b: FlatBody) -> Result<FlatBody, NoMemory>
     requires formed { IsWellFormed b }
     ensures { IfOk result (λ new. new ≡ copies_replaced b) }
 {
-    if any_copies(b.blocks.as_slice()) {
-        replaced(alloc, b)
-    } else {
-        Ok(b)
-    }
+    let Passed { body, changed: _ } = copies_pass(alloc, b)?;
+    Ok(body)
 }

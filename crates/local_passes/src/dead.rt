@@ -1,14 +1,15 @@
-ghost use Rattle.std.specs.Prelude.{◌≡◌, IfOk, map};
-ghost use Rattle.std.specs.List.{filter, filter_map};
+ghost use Rattle.std.specs.Prelude.{◌≡◌, IfOk, false, not, map};
+ghost use Rattle.std.specs.List.{filter, filter_map, list_any};
 ghost use Rattle.ir_core.specs.WellFormed.{IsWellFormed};
 ghost use Rattle.flow_fold.specs.Walks.{marked_in};
+ghost use Rattle.local_passes.specs.DeadTests.{loses, block_loses};
 ghost use Rattle.local_passes.specs.DropDead.{is_needed, result_kept, instr_kept, block_kept, only_registers, dead_dropped};
 
 use crate::acts::mark_acts;
 use crate::needs::Needs;
 use crate::use_table::UseTable;
-use const_fold::reversed;
-use ir_core::{FlatBlock, FlatBlocks, FlatBody, FlatCode, FlatInstr, Phis};
+use const_fold::{Passed, reversed};
+use ir_core::{FlatBlock, FlatBlocks, FlatBody, FlatCode, FlatInstr, Phi, Phis};
 use oi_base::{Items, NoMemory, RegId};
 use std::alloc::{AllocError, Global};
 
@@ -106,25 +107,103 @@ fn blocks_kept(alloc: Global, marks: &[bool], blocks: FlatBlocks) -> Result<Flat
     Ok(new)
 }
 
-/// Drops dead code.
-///
-/// A register is needed where a store, a call, a put, an exit or a terminator uses it, or the instruction of a needed register
-/// does. An instruction whose result isn't needed is dropped; a call, a put or a get loses its result instead.
-#[tactic(auto, unfolding(crate::specs::DropDead::dead_dropped))]
-pub fn drop_dead(alloc: Global, b: FlatBody) -> Result<FlatBody, NoMemory>
-    requires formed { IsWellFormed b }
-    ensures { IfOk result (λ new. new ≡ dead_dropped b) }
+/// Whether some phi gives a register that is not kept.
+fn phis_lose(marks: &[bool], phis: &[Phi]) -> bool
+    ensures { result ≡ list_any (λ f. not (marked_in marks.now f.reg.0)) phis.now }
 {
-    let marks = needed(alloc, &b)?;
+    for phi in phis {
+        if !is_kept(marks, phi.reg) {
+            return true;
+        }
+    }
+    false
+}
+
+/// Whether an instruction gives a register that is not kept.
+fn loses(marks: &[bool], i: &FlatInstr) -> bool
+    ensures { result ≡ loses (marked_in marks.now) i.now }
+{
+    match i.result() {
+        Some(d) => !is_kept(marks, d),
+        None => false,
+    }
+}
+
+fn code_loses(marks: &[bool], code: &[FlatInstr]) -> bool
+    ensures { result ≡ list_any (loses (marked_in marks.now)) code.now }
+{
+    for instr in code {
+        if loses(marks, instr) {
+            return true;
+        }
+    }
+    false
+}
+
+fn block_loses(marks: &[bool], block: &FlatBlock) -> bool
+    ensures { result ≡ block_loses (marked_in marks.now) block.now }
+{
+    phis_lose(marks, block.phis.as_slice()) || code_loses(marks, block.code.as_slice())
+}
+
+/// Whether some phi or instruction gives a register that is not kept.
+fn any_dead(marks: &[bool], blocks: &[FlatBlock]) -> bool
+    ensures { result ≡ list_any (block_loses (marked_in marks.now)) blocks.now }
+{
+    for block in blocks {
+        if block_loses(marks, block) {
+            return true;
+        }
+    }
+    false
+}
+
+/// The body where only marked registers are left.
+fn only_registers(alloc: Global, marks: &[bool], b: FlatBody) -> Result<FlatBody, AllocError>
+    ensures { IfOk result (λ new. new ≡ only_registers (marked_in marks.now) b) }
+{
     let FlatBody {
         params,
         regs,
         blocks,
     } = b;
-    let blocks = blocks_kept(alloc, marks.as_slice(), blocks)?;
+    let blocks = blocks_kept(alloc, marks, blocks)?;
     Ok(FlatBody {
         params,
         regs,
         blocks,
     })
+}
+
+/// Drops dead code as `drop_dead` does, and tells whether there was some. Where there was none, the body is only read.
+#[tactic(auto, unfolding(crate::specs::DropDead::dead_dropped))]
+pub fn dead_pass(alloc: Global, b: FlatBody) -> Result<Passed, NoMemory>
+    requires formed { IsWellFormed b }
+    ensures body { IfOk result (λ p. p.body ≡ dead_dropped b) }
+    ensures same { IfOk result (λ p. p.changed ≡ false → p.body ≡ b) }
+{
+    let marks = needed(alloc, &b)?;
+    if any_dead(marks.as_slice(), b.blocks.as_slice()) {
+        Ok(Passed {
+            body: only_registers(alloc, marks.as_slice(), b)?,
+            changed: true,
+        })
+    } else {
+        Ok(Passed {
+            body: b,
+            changed: false,
+        })
+    }
+}
+
+/// Drops dead code.
+///
+/// A register is needed where a store, a call, a put, an exit or a terminator uses it, or the instruction of a needed register
+/// does. An instruction whose result isn't needed is dropped; a call, a put or a get loses its result instead.
+pub fn drop_dead(alloc: Global, b: FlatBody) -> Result<FlatBody, NoMemory>
+    requires formed { IsWellFormed b }
+    ensures { IfOk result (λ new. new ≡ dead_dropped b) }
+{
+    let Passed { body, changed: _ } = dead_pass(alloc, b)?;
+    Ok(body)
 }

@@ -1,4 +1,4 @@
-use Rattle.std.proofs.Common.{◌≡◌, ◌+◌, sym, ap, ◌∙◌, subst}
+use Rattle.std.proofs.Common.{◌+◌, sym, ap, ◌∙◌}
 use Rattle.ir_core.specs.Formed.{targets}
 use Rattle.ir_core.proofs.ByPosition.{take_all}
 use Rattle.flow_fold.specs.Merges.{count, count_in}

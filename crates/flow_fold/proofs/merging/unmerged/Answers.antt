@@ -1,4 +1,4 @@
-use Rattle.std.proofs.Common.{◌≡◌, ◌<◌, true, slice_get, length, replicate, sym, ap, ◌∙◌, subst, rules}
+use Rattle.std.proofs.Common.{◌<◌, true, slice_get, length, replicate, sym, ap, ◌∙◌, subst}
 use Rattle.flow_fold.specs.Merges.{edge_count}
 use Rattle.flow_fold.proofs.Namings.{begins_sound, begins_shown}
 use Rattle.flow_fold.proofs.merging.unmerged.Goals as goal

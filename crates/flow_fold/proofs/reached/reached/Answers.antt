@@ -1,5 +1,4 @@
 use Rattle.std.proofs.Common.{◌<◌, false, length, replicate, sym, ap, ◌∙◌, subst}
-use Rattle.ir_core.specs.Formed.{targets}
 use Rattle.flow_fold.specs.Walks.{marked_in}
 use Rattle.flow_fold.proofs.Walking.{open_last, begun, walked, block_at, targets_marked, ended}
 use Rattle.flow_fold.proofs.reached.reached.Goals as goal

@@ -1,4 +1,4 @@
-use Rattle.std.proofs.Common.{rules, true, refl, sym, ap, ◌∙◌}
+use Rattle.std.proofs.Common.{rules}
 use Rattle.flow_fold.proofs.Marking.{marks_one}
 use Rattle.flow_fold.proofs.walk.Walk.mark.Goals as goal
 

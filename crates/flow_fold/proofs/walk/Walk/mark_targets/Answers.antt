@@ -1,4 +1,4 @@
-use Rattle.std.proofs.Common.{◌+◌, take, refl, sym, ap, ◌∙◌, subst}
+use Rattle.std.proofs.Common.{◌+◌, take, refl, sym, subst}
 use Rattle.ir_core.specs.Formed.{targets}
 use Rattle.ir_core.proofs.ByPosition.{take_next, take_all}
 use Rattle.flow_fold.specs.Walks.{Marks}

@@ -1,4 +1,4 @@
-use Rattle.std.proofs.Common.{◌≡◌, ◌-◌, take, length}
+use Rattle.std.proofs.Common.{◌-◌, take, length}
 use Rattle.ir_core.specs.Formed.{targets}
 use Rattle.flow_fold.specs.Walks.{Marks}
 use Rattle.flow_fold.proofs.walk.Walk.mark_targets.Given as goal

@@ -1,7 +1,7 @@
 use Rattle.std.proofs.Common.{subst}
 use Rattle.flow_fold.specs.MergeBlocks.{merged_through, all_merged, unmerged, blocks_merged}
 use Rattle.flow_fold.specs.Merges.{Shows}
-use Rattle.flow_fold.proofs.merging.merge_blocks.Goals as goal
+use Rattle.flow_fold.proofs.merging.merged.Goals as goal
 
 pub unmerged-requires : goal.unmerged-requires
 unmerged-requires c = record { within = λ a t k e in_it. c.requires.formed.formed.in_range a t (k, e, in_it) }
