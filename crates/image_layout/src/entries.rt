@@ -19,7 +19,7 @@ use rv_select::Code;
 use std::alloc::Global;
 
 /// The number of `main`; that of the functions where there is none.
-pub(crate) fn main_function(m: &Module) -> FuncId
+pub fn main_function(m: &Module) -> FuncId
     requires few { length m.now.funcs ≤ MOST_FUNCTIONS }
     ensures { result.0 ≡ main_number m.now }
 {

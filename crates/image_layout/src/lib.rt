@@ -11,6 +11,7 @@ mod laws;
 mod symbols;
 mod text;
 
+pub use entries::main_function;
 pub use faults::ImageFault;
 pub use imaging::image;
 pub use laws::{an_image_is_laid, an_image_is_within_bounds};
