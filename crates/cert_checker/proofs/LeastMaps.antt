@@ -1,18 +1,16 @@
 -- A map whose certificate passes is least.
-use Rattle.std.proofs.Common.{◌≡◌, ◌≢◌, ℕ, ◌+◌, refl, sym, ap, ◌∙◌, subst, arith, true, false, Bool, List, Option, Some, None}
+use Rattle.std.proofs.Common.{◌≡◌, ℕ, ◌+◌, subst, arith, Some}
 use Rattle.ir_core.specs.declared.module.Module.{Module}
-use Rattle.call_graph.specs.Graph.{Graph, candidate_ids}
-use Rattle.decisions.specs.declared.maps.Label.TheVariants.{Keep}
-use Rattle.component_split.specs.Graph.{Closed, has}
-use Rattle.component_split.specs.Over.{site_graph, reached_from}
+use Rattle.call_graph.specs.Graph.{Graph}
+use Rattle.component_split.specs.Over.{reached_from}
 use Rattle.component_split.specs.States.{none_decided}
 use Rattle.inline_certificate.specs.declared.certificates.Certificate.{Certificate}
 use Rattle.shapes.specs.Over.{IsGraphOf}
-use Rattle.size_measure.specs.Maps.{Map, Completes, map_of}
-use Rattle.size_measure.specs.Sizes.{Size, plus, IsAtMost, part, size}
+use Rattle.size_measure.specs.Maps.{Map, Completes}
+use Rattle.size_measure.specs.Sizes.{IsAtMost, part, size}
 use Rattle.size_measure.specs.Low.{low}
 use Rattle.size_measure.proofs.Bounds.{at_most_refl, plus_mono, low_bound}
-use Rattle.cert_checker.specs.Worth.{Worth, Passes}
+use Rattle.cert_checker.specs.Worth.{Passes}
 use Rattle.cert_checker.proofs.WorthBounds.{worth_bound}
 use Rattle.cert_checker.proofs.Whole.{whole_closed}
 

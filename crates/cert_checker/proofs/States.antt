@@ -1,8 +1,8 @@
 -- A label for an undecided site, and components, leave the states of the search closed.
-use Rattle.std.proofs.Common.{◌≡◌, ◌≢◌, ◌⊎◌, inl, inr, ℕ, refl, sym, ap, ◌∙◌, Bool, true, false, ◌&&◌, nat_eq, List, [], ◌∷◌, map, Option, Some, None}
+use Rattle.std.proofs.Common.{◌≡◌, ◌≢◌, ℕ, refl, sym, ap, ◌∙◌, Bool, true, false, ◌&&◌, nat_eq, List, [], ◌∷◌, map, Option, Some, None}
 use Rattle.std.proofs.lemmas.Bool.{and_parts, and_from, eqb-true, false≢true}
 use Rattle.decisions.specs.declared.maps.Label.{Label}
-use Rattle.decisions.specs.declared.maps.Label.TheVariants.{Keep, Inline}
+use Rattle.decisions.specs.declared.maps.Label.TheVariants.{Keep}
 use Rattle.component_split.specs.Graph.{SiteGraph, Labels, Closed, has, inside, with_label, is_open}
 use Rattle.component_split.specs.Split.{component, roots, components, open_sites}
 use Rattle.component_split.proofs.ClosedSets.{component_closed}

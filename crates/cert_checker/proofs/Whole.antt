@@ -1,5 +1,5 @@
 -- The state in which the search begins is closed: both functions of a candidate are reached.
-use Rattle.std.proofs.Common.{◌≡◌, ◌≢◌, ℕ, zero, suc, ◌+◌, ◌-◌, ◌<◌, ◌≤◌, refl, sym, ap, ◌∙◌, subst, arith, Bool, true, false, ◌||◌, nat_eq, eq-eqb, if◌then◌else◌, List, [], ◌∷◌, length, Option, Some, None, slice_get}
+use Rattle.std.proofs.Common.{◌≡◌, ◌≢◌, ℕ, zero, suc, ◌+◌, ◌-◌, ◌<◌, ◌≤◌, refl, sym, ap, ◌∙◌, subst, arith, Bool, true, false, ◌||◌, nat_eq, eq-eqb, if◌then◌else◌, List, [], ◌∷◌, length, Some, None, slice_get}
 use Rattle.std.specs.Option.{option_map}
 use Rattle.std.proofs.lemmas.Bool.{eqb-true, false≢true, true≢false}
 use Rattle.std.proofs.lemmas.Option.{slice_get-map}
@@ -8,7 +8,7 @@ use Rattle.ir_core.specs.declared.module.Module.{Module}
 use Rattle.call_graph.specs.declared.facts.FuncFacts.{FuncFacts}
 use Rattle.call_graph.specs.declared.facts.SiteFacts.{SiteFacts}
 use Rattle.call_graph.specs.declared.sites.Site.{Site}
-use Rattle.call_graph.specs.Edges.{edge_of, edges_of}
+use Rattle.call_graph.specs.Edges.{edge_of}
 use Rattle.call_graph.specs.Sites.{all_sites}
 use Rattle.call_graph.specs.Graph.{Graph, candidate_ids, IsCandidateOf}
 use Rattle.call_graph.proofs.AllSites.{sites_are_edges}
@@ -17,7 +17,7 @@ use Rattle.decisions.specs.declared.maps.Label.{Label}
 use Rattle.decisions.specs.declared.maps.Label.TheVariants.{Keep}
 use Rattle.decisions.specs.Maps.{label_of, undecided}
 use Rattle.shapes.specs.Over.{IsGraphOf}
-use Rattle.shapes.proofs.Forests.{func_at, facts, is_candidate, callee_reached}
+use Rattle.shapes.proofs.Forests.{func_at, is_candidate, callee_reached}
 use Rattle.component_split.specs.Graph.{Closed, Distinct, has}
 use Rattle.component_split.specs.Over.{site_graph, site_numbers, caller_of, callee_of, keep_unless, labels, reached_from}
 use Rattle.component_split.specs.States.{none_decided}

@@ -1,5 +1,5 @@
 -- What a tree is worth over a state, no completion goes below.
-use Rattle.std.proofs.Common.{◌≡◌, ◌⊎◌, inl, inr, ⊎_elim, ℕ, min, ◌≤◌, refl, sym, ap, ◌∙◌, subst, arith, List, [], ◌∷◌, map, Some, None}
+use Rattle.std.proofs.Common.{◌≡◌, ◌⊎◌, inl, inr, ⊎_elim, ℕ, refl, sym, ap, ◌∙◌, subst, arith, List, [], ◌∷◌, map, Some, None}
 use Rattle.ir_core.specs.declared.module.Module.{Module}
 use Rattle.call_graph.specs.Graph.{Graph}
 use Rattle.decisions.specs.declared.maps.Label.{Label}
@@ -15,7 +15,7 @@ use Rattle.size_measure.proofs.Independent.{part_same}
 use Rattle.size_measure.proofs.Bounds.{at_most_refl, plus_mono, filled_completes}
 use Rattle.size_measure.proofs.LeastParts.{part_components}
 use Rattle.cert_checker.specs.Worth.{BoundOf, Worth, Worths}
-use Rattle.cert_checker.proofs.States.{open_site, label_completes, label_closed, AllClosed, components_closed, none_open}
+use Rattle.cert_checker.proofs.States.{label_completes, label_closed, AllClosed, components_closed, none_open}
 
 pub at_most_trans : (a b c : Size) → IsAtMost a b → IsAtMost b c → IsAtMost a c
 at_most_trans a b None h i = tt

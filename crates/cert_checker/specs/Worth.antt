@@ -1,9 +1,7 @@
 -- What a certificate's tree is worth over a state of the search, and when a certificate passes.
-use Rattle.std.specs.Prelude.{◌≡◌, ℕ, ◌+◌, ◌<◌, true, List, [], ◌∷◌, length, map, Option, Some, None}
-use Rattle.oi_base.specs.declared.ids.FuncId.{FuncId}
+use Rattle.std.specs.Prelude.{◌≡◌, ℕ, ◌+◌, ◌<◌, true, List, [], ◌∷◌, length, Some}
 use Rattle.ir_core.specs.declared.module.Module.{Module}
-use Rattle.call_graph.specs.Graph.{Graph, candidate_ids}
-use Rattle.decisions.specs.declared.maps.Label.{Label}
+use Rattle.call_graph.specs.Graph.{Graph}
 use Rattle.decisions.specs.declared.maps.Label.TheVariants.{Keep, Inline}
 use Rattle.component_split.specs.Graph.{Labels, with_label, has}
 use Rattle.component_split.specs.Split.{open_sites, roots, components}

@@ -1,5 +1,5 @@
 -- The lower bound of a partial map is one for all its completions.
-use Rattle.std.proofs.Common.{◌≡◌, ◌≢◌, ◌⊎◌, inl, inr, ⊎_elim, ℕ, zero, suc, ◌+◌, ◌*◌, ◌≤◌, refl, sym, ap, ◌∙◌, subst, arith, Bool, true, false, not, ◌&&◌, ◌||◌, nat_eq, eq-eqb, List, [], ◌∷◌, length, Option, Some, None}
+use Rattle.std.proofs.Common.{◌≡◌, ◌≢◌, ◌⊎◌, inl, inr, ⊎_elim, ℕ, zero, suc, refl, sym, ap, ◌∙◌, subst, arith, Bool, true, false, not, ◌&&◌, ◌||◌, nat_eq, eq-eqb, List, [], ◌∷◌, length, Option, Some, None}
 use Rattle.std.proofs.lemmas.Bool.{or_cases, and_parts, eqb-true, false≢true, true≢false}
 use Rattle.ir_core.specs.declared.module.Module.{Module}
 use Rattle.call_graph.specs.declared.facts.SiteFacts.{SiteFacts}
@@ -7,7 +7,7 @@ use Rattle.call_graph.specs.Graph.{Graph}
 use Rattle.decisions.specs.declared.maps.Label.{Label}
 use Rattle.decisions.specs.declared.maps.Label.TheVariants.{Keep, Inline}
 use Rattle.component_split.specs.Graph.{SiteGraph, Labels, has}
-use Rattle.component_split.specs.Over.{site_graph, caller_of, callee_of}
+use Rattle.component_split.specs.Over.{site_graph}
 use Rattle.size_measure.specs.Maps.{Map, Completes, filled, label_or, is_keep}
 use Rattle.size_measure.specs.Kept.{is_reached, is_external, any_keeps, is_kept}
 use Rattle.size_measure.specs.Trees.{body}

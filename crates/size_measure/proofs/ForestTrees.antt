@@ -1,10 +1,9 @@
 -- The trees of a forest are those of its map, where undecided sites are kept.
-use Rattle.std.proofs.Common.{◌≡◌, ◌≢◌, ◌⊎◌, inl, inr, ⊎_elim, ℕ, zero, suc, ◌+◌, ◌-◌, ◌<◌, ◌≤◌, refl, sym, ap, ap₂, ◌∙◌, subst, arith, Bool, true, false, not, ◌&&◌, ◌||◌, ◌==◌, nat_eq, eqb, if◌then◌else◌, List, [], ◌∷◌, length, map, Option, Some, None, All, slice_get, Contains}
+use Rattle.std.proofs.Common.{◌≡◌, ◌≢◌, ⊎_elim, ℕ, zero, suc, ◌+◌, ◌<◌, ◌≤◌, refl, sym, ap, ap₂, ◌∙◌, subst, arith, Bool, true, false, ◌&&◌, ◌||◌, ◌==◌, nat_eq, eqb, if◌then◌else◌, List, [], ◌∷◌, length, Option, Some, None, All, Contains}
 use Rattle.std.specs.List.{filter, list_any, IsDistinct, AllByRecursion as Each}
 use Rattle.std.proofs.lemmas.Bool.{or_cases, and_parts, eqb-true, eq-eqb, false≢true}
 use Rattle.std.proofs.lemmas.Map.Keys.{IsDistinct-cons}
 use Rattle.std.specs.Option.{option_map, option_map_or}
-use Rattle.std.proofs.lemmas.Bool.Decides.{nat_tests}
 use Rattle.std.proofs.lemmas.List.Elements.{All-head, All-tail, All-weaker, All-contains_itself}
 use Rattle.std.proofs.lemmas.Map.Steps.{length-le_from_distinct_below}
 use Rattle.oi_base.specs.declared.ids.FuncId.{FuncId}
@@ -15,20 +14,19 @@ use Rattle.call_graph.specs.declared.facts.SiteFacts.{SiteFacts}
 use Rattle.call_graph.specs.declared.sites.Site.{Site}
 use Rattle.call_graph.specs.Sites.{all_sites, Leads, stays, goes, IsCandidate, CandidatesLead, by_one, by_more}
 use Rattle.call_graph.proofs.Candidates.{exactly}
-use Rattle.call_graph.specs.Graph.{Graph, IsGraph, candidate_ids, IsNumber, SiteIs, IsCandidateOf}
+use Rattle.call_graph.specs.Graph.{Graph, candidate_ids, SiteIs, IsCandidateOf}
 use Rattle.decisions.specs.declared.maps.Label.{Label}
 use Rattle.decisions.specs.declared.maps.Label.TheVariants.{Keep, Inline}
 use Rattle.decisions.specs.Maps as maps
 use Rattle.shapes.specs.Tree.{Tree, node, Callees, none, more, func}
-use Rattle.shapes.specs.Weight.{own_weight, callees_weight, kept, IsWeighed, AreWeighed}
+use Rattle.shapes.specs.Weight.{IsWeighed, AreWeighed}
 use Rattle.shapes.specs.Over.{IsGraphOf, sites_of}
 use Rattle.shapes.specs.Standing as standing
 use Rattle.shapes.specs.Standing.{Labels, is_in, inline_sites, StandsFor, AllStandFor, IsTreeOf}
 use Rattle.shapes.proofs.Sites.{all_candidates, all_inline}
 use Rattle.shapes.proofs.Forests.{is_candidate, is_site, callee_reached}
 use Rattle.std.proofs.lemmas.Option.{slice_get_within}
-use Rattle.component_split.specs.Graph.{SiteGraph}
-use Rattle.component_split.specs.Over.{site_graph, site_numbers, of_site, caller_of, callee_of, keep_unless, labels}
+use Rattle.component_split.specs.Over.{site_graph, site_numbers, caller_of, callee_of, keep_unless, labels}
 use Rattle.size_measure.specs.Maps.{Map, is_inline, label_or, filled}
 use Rattle.size_measure.specs.Trees.{callees_of, tree_with, tree_by, tree}
 

@@ -1,5 +1,5 @@
 -- What a map says of the functions of a closed set depends only on the labels of the sites inside it.
-use Rattle.std.proofs.Common.{◌≡◌, ◌≢◌, ◌⊎◌, inl, inr, ⊎_elim, ℕ, zero, suc, ◌+◌, ◌-◌, refl, sym, ap, ap₂, ◌∙◌, subst, arith, Bool, true, false, ◌&&◌, ◌||◌, nat_eq, eq-eqb, List, [], ◌∷◌, length, slice_get, Option, Some, None}
+use Rattle.std.proofs.Common.{◌≡◌, ◌≢◌, ◌⊎◌, inl, inr, ⊎_elim, ℕ, suc, ◌+◌, ◌-◌, refl, sym, ap, ap₂, ◌∙◌, subst, arith, Bool, true, false, ◌&&◌, ◌||◌, nat_eq, eq-eqb, List, [], ◌∷◌, length, slice_get, Option, Some, None}
 use Rattle.std.specs.Option.{option_map_or}
 use Rattle.std.proofs.lemmas.Bool.{and_from, eqb-true, false≢true, true≢false}
 use Rattle.ir_core.specs.declared.module.Module.{Module}
@@ -7,8 +7,8 @@ use Rattle.call_graph.specs.declared.facts.SiteFacts.{SiteFacts}
 use Rattle.call_graph.specs.Graph.{Graph}
 use Rattle.decisions.specs.declared.maps.Label.{Label}
 use Rattle.decisions.specs.declared.maps.Label.TheVariants.{Keep, Inline}
-use Rattle.component_split.specs.Graph.{SiteGraph, Labels, Closed, has, inside}
-use Rattle.component_split.specs.Over.{site_graph, of_site, caller_of, callee_of}
+use Rattle.component_split.specs.Graph.{Labels, Closed, has, inside}
+use Rattle.component_split.specs.Over.{site_graph, caller_of, callee_of}
 use Rattle.size_measure.specs.Maps.{Map, Completes, AgreeInside, is_keep}
 use Rattle.size_measure.specs.Kept.{is_reached, is_external, any_keeps, is_kept}
 use Rattle.size_measure.specs.Trees.{tree, body}

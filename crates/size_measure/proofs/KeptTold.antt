@@ -1,5 +1,5 @@
 -- The test of who is kept says what it is to be kept.
-use Rattle.std.proofs.Common.{◌≡◌, ◌≢◌, ◌⊎◌, inl, inr, ⊎_elim, ℕ, zero, suc, ◌+◌, ◌-◌, ◌<◌, ◌≤◌, refl, sym, ap, ◌∙◌, subst, arith, Bool, true, false, ◌&&◌, ◌||◌, nat_eq, eq-eqb, List, [], ◌∷◌, length, slice_get, Option, Some, None}
+use Rattle.std.proofs.Common.{◌≡◌, ◌≢◌, inl, inr, ⊎_elim, ℕ, zero, suc, ◌+◌, ◌-◌, refl, ap, ◌∙◌, subst, arith, Bool, true, false, ◌&&◌, ◌||◌, nat_eq, eq-eqb, List, [], ◌∷◌, slice_get, Option, Some, None}
 use Rattle.std.specs.Option.{option_map_or}
 use Rattle.std.proofs.lemmas.Bool.{or_cases, and_parts, and_from, eqb-true, false≢true}
 use Rattle.std.proofs.lemmas.Option.{slice_get_within}
@@ -11,7 +11,7 @@ use Rattle.call_graph.specs.Graph.{Graph}
 use Rattle.decisions.specs.declared.maps.Label.{Label}
 use Rattle.decisions.specs.declared.maps.Label.TheVariants.{Keep, Inline}
 use Rattle.decisions.specs.Maps as maps
-use Rattle.function_removal.specs.Kept.{IsReached, IsExternal, HasKeep, KeepsCall, IsKept}
+use Rattle.function_removal.specs.Kept.{IsReached, IsExternal, KeepsCall, IsKept}
 use Rattle.size_measure.specs.Maps.{Map, map_of, label_or, is_keep}
 use Rattle.size_measure.specs.Kept.{is_reached, is_external, any_keeps, is_kept}
 

@@ -1,9 +1,8 @@
 -- The least size over a closed set is the sum of those over its components.
-use Rattle.std.proofs.Common.{◌≡◌, ℕ, refl, sym, ap, ◌∙◌, subst, arith, Bool, true, false, ◌&&◌, nat_eq, List, [], ◌∷◌, Option, Some, None}
+use Rattle.std.proofs.Common.{◌≡◌, ℕ, refl, sym, ap, ◌∙◌, subst, arith, Bool, true, false, nat_eq, List, [], ◌∷◌}
 use Rattle.std.proofs.lemmas.Bool.{and_parts, eqb-true, false≢true}
 use Rattle.ir_core.specs.declared.module.Module.{Module}
 use Rattle.call_graph.specs.Graph.{Graph}
-use Rattle.decisions.specs.declared.maps.Label.{Label}
 use Rattle.decisions.specs.declared.maps.Label.TheVariants.{Keep}
 use Rattle.component_split.specs.Graph.{Labels, Closed, has, inside}
 use Rattle.component_split.specs.Split.{lowest, component, roots}
@@ -11,7 +10,7 @@ use Rattle.component_split.specs.Over.{site_graph, caller_of, callee_of}
 use Rattle.component_split.proofs.ClosedSets.{component_closed}
 use Rattle.component_split.proofs.Merge.{has_component, has_roots, distinct_roots}
 use Rattle.size_measure.specs.Maps.{Map, Completes, filled}
-use Rattle.size_measure.specs.Sizes.{Size, plus, IsAtMost, total, held, part}
+use Rattle.size_measure.specs.Sizes.{Size, IsAtMost, total, held, part}
 use Rattle.size_measure.specs.Low.{IsLeastOf}
 use Rattle.size_measure.proofs.Bounds.{plus_mono, filled_completes}
 use Rattle.size_measure.proofs.Independent.{part_same, total_same}

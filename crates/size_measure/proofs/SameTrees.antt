@@ -7,10 +7,9 @@ use Rattle.ir_core.specs.declared.module.Module.{Module}
 use Rattle.call_graph.specs.Graph.{Graph}
 use Rattle.decisions.specs.declared.maps.Label.{Label}
 use Rattle.decisions.specs.declared.maps.Label.TheVariants.{Keep, Inline}
-use Rattle.shapes.specs.Tree.{Tree, Callees, none, more}
+use Rattle.shapes.specs.Tree.{Tree, Callees, more}
 use Rattle.site_inliner.specs.Flat.{flat}
 use Rattle.component_split.specs.Graph.{SiteGraph}
-use Rattle.component_split.specs.Over.{site_graph}
 use Rattle.size_measure.specs.Maps.{Map, is_inline}
 use Rattle.size_measure.specs.Trees.{callees_of, tree_with, tree_by, tree, body}
 use Rattle.size_measure.specs.Sizes.{ok, measured, body_size}

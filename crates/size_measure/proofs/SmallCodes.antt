@@ -1,5 +1,5 @@
 -- A code has at least the two instructions that open its frame.
-use Rattle.std.proofs.Common.{◌≡◌, ℕ, suc, ◌+◌, ◌*◌, ◌≤◌, nat_lt, nat_le, Bool, true, false, if◌then◌else◌, refl, sym, ap, ◌∙◌, arith, pos, neg_ℤ, List, [], ◌∷◌, ◌++◌, length, length-append, Option, Some, None, Ok, Err}
+use Rattle.std.proofs.Common.{◌≡◌, ℕ, suc, ◌+◌, ◌≤◌, nat_lt, nat_le, Bool, true, false, if◌then◌else◌, refl, ap, arith, pos, neg_ℤ, List, [], ◌∷◌, ◌++◌, length, length-append, Option, Some, None, Ok, Err}
 use Rattle.std.specs.Option.{option_and_then}
 use Rattle.ir_core.specs.declared.flat.FlatBody.{FlatBody}
 use Rattle.ir_core.specs.declared.module.Module.{Module}
@@ -19,10 +19,10 @@ use Rattle.rv_select.specs.Branches.{is_long, place}
 use Rattle.rv_select.specs.Parts.{sp, ra, t0, large_frame, frame_down, open_frame}
 use Rattle.rv_select.specs.Pending.{words, draft_items, items_from}
 use Rattle.rv_select.specs.Lowered.{prologue, keep_parameters, blocks_from}
-use Rattle.rv_select.specs.Code.{drafts, block_head, longs, items_of, code_with, code, code_bytes}
+use Rattle.rv_select.specs.Code.{drafts, block_head, longs, code, code_bytes}
 use Rattle.size_measure.specs.Maps.{Map}
 use Rattle.size_measure.specs.Trees.{body}
-use Rattle.size_measure.specs.Sizes.{Size, IsAtMost, heaviest, code_size, measured, ok, body_size}
+use Rattle.size_measure.specs.Sizes.{IsAtMost, heaviest, code_size, measured, ok, body_size}
 
 -- ---- as many items as drafts, or more
 

@@ -1,7 +1,7 @@
 -- Sums of sizes over a set, and over classes of it.
-use Rattle.std.proofs.Common.{◌≡◌, ◌≢◌, ◌⊎◌, ℕ, zero, suc, ◌+◌, ◌-◌, ◌<◌, ◌≤◌, min, refl, sym, ap, ◌∙◌, subst, inl, inr, ⊎_elim, arith, Bool, true, false, ◌&&◌, ◌||◌, nat_eq, List, [], ◌∷◌, length, map, Option, Some, None, le_trans, eq-eqb, cond}
+use Rattle.std.proofs.Common.{◌≡◌, ℕ, refl, sym, ap, ◌∙◌, arith, Bool, true, false, ◌||◌, nat_eq, List, [], ◌∷◌, map, Some, None, eq-eqb, cond}
 use Rattle.std.specs.List.{filter}
-use Rattle.std.proofs.lemmas.Bool.{or_cases, and_parts, and_from, eqb-true, eqb-false, ne_eqb, false≢true, true≢false}
+use Rattle.std.proofs.lemmas.Bool.{eqb-true, eqb-false, false≢true, true≢false}
 use Rattle.component_split.specs.Graph.{Distinct, has}
 use Rattle.size_measure.specs.Sizes.{Size, plus, total}
 
