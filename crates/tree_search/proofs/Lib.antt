@@ -1,0 +1,4 @@
+pub mod Grown
+pub mod Worths
+pub mod Picked
+pub mod Found
