@@ -1,5 +1,5 @@
 -- The picked map of the search's tree is least, and its certificate passes.
-use Rattle.std.proofs.Common.{◌≡◌, ℕ, ◌+◌, refl, sym, ap, ◌∙◌, subst, arith, true, List, Some, None}
+use Rattle.std.proofs.Common.{◌≡◌, ℕ, ◌+◌, sym, ap, ◌∙◌, subst, arith, List, Some}
 use Rattle.ir_core.specs.declared.module.Module.{Module}
 use Rattle.call_graph.specs.Graph.{Graph}
 use Rattle.component_split.specs.Over.{site_graph, reached_from}

@@ -2,3 +2,4 @@ pub mod Grown
 pub mod Worths
 pub mod Picked
 pub mod Found
+pub mod Cuts

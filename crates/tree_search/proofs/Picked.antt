@@ -1,16 +1,16 @@
 -- The map that a tree picks completes the state, and has what the tree is worth.
-use Rattle.std.proofs.Common.{◌≡◌, ℕ, refl, sym, ap, ap₂, ◌∙◌, arith, Bool, true, false, ◌&&◌, ◌||◌, nat_eq, if◌then◌else◌, List, [], ◌∷◌, map, Option, Some, None}
+use Rattle.std.proofs.Common.{◌≡◌, ℕ, refl, sym, ap, ap₂, ◌∙◌, arith, Bool, true, false, ◌&&◌, ◌||◌, nat_eq, if◌then◌else◌, List, [], ◌∷◌, map, Some, None}
 use Rattle.std.proofs.lemmas.Bool.{and_parts, eqb-true, eqb-false, false≢true, true≢false, ltb-true, ltb-false}
 use Rattle.ir_core.specs.declared.module.Module.{Module}
 use Rattle.call_graph.specs.Graph.{Graph}
 use Rattle.decisions.specs.declared.maps.Label.{Label}
 use Rattle.decisions.specs.declared.maps.Label.TheVariants.{Keep, Inline}
-use Rattle.component_split.specs.Graph.{SiteGraph, Labels, Closed, Distinct, has, inside, with_label}
+use Rattle.component_split.specs.Graph.{SiteGraph, Labels, Closed, Distinct, has, with_label}
 use Rattle.component_split.specs.Split.{lowest, component, roots, components}
-use Rattle.component_split.specs.Over.{site_graph, caller_of, callee_of}
+use Rattle.component_split.specs.Over.{site_graph}
 use Rattle.component_split.proofs.Merge.{has_component, distinct_roots}
 use Rattle.inline_certificate.specs.Trees.{Tree, leaf, branch, cut, split, Parts, done, more}
-use Rattle.size_measure.specs.Maps.{Map, Completes, AgreeInside, filled}
+use Rattle.size_measure.specs.Maps.{Map, Completes, AgreeInside}
 use Rattle.size_measure.specs.Sizes.{Size, plus, lesser, part}
 use Rattle.size_measure.proofs.Bounds.{filled_completes}
 use Rattle.size_measure.proofs.Independent.{part_same}

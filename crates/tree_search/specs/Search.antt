@@ -63,3 +63,7 @@ rules m g = record {
 -- the tree of a module's search: from the state of all reached functions in which nothing is decided
 abbrev pub IsSearchTree : Module → Graph → Tree → Type 0
 IsSearchTree m g t = IsTree (site_graph g) (rules m g) (none_decided g) (reached_from 0 g.funcs) t
+
+-- the same without cuts
+abbrev pub rules_without_cuts : Module → Graph → Rules
+rules_without_cuts m g = record { leaf_value = (rules m g).leaf_value; cut_by = λ q fs a. None }

@@ -1,5 +1,5 @@
 -- The value of a tree of the search, how many nodes it has, and the map that its taken leaves decide.
-use Rattle.std.specs.Prelude.{ℕ, ◌+◌, Bool, true, false, nat_lt, if◌then◌else◌, List, [], ◌∷◌, Option, Some, None}
+use Rattle.std.specs.Prelude.{ℕ, ◌+◌, Bool, true, false, nat_lt, if◌then◌else◌, List, [], ◌∷◌, Some, None}
 use Rattle.decisions.specs.declared.maps.Label.TheVariants.{Keep, Inline}
 use Rattle.component_split.specs.Graph.{SiteGraph, Labels, with_label, has}
 use Rattle.component_split.specs.Split.{components}
