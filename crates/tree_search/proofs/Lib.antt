@@ -1,0 +1,5 @@
+pub mod Grown
+pub mod Worths
+pub mod Picked
+pub mod Found
+pub mod Cuts
