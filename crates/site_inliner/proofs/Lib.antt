@@ -7,3 +7,7 @@ pub mod MeasuredFuncs
 pub mod PathLaws
 pub mod Kept
 pub mod Made
+pub mod ExtentLaws
+pub mod PointLaws
+pub mod SiteTests
+pub mod TableLaws

@@ -1,6 +1,6 @@
 -- A function of a proper and valid module asks for sizes and offsets of types alone that can be told.
-use Rattle.std.proofs.Common.{◌≡◌, inl, inr, ⊎_elim, ℕ, ◌*◌, ◌<◌, ◌≤◌, ℤ, pos, negsuc, unsigned_abs, List, [], ◌∷◌, ◌++◌, map, Option, Some, None, slice_get, All, Contains, refl, sym, ap, ◌∙◌, subst, arith}
-use Rattle.std.specs.List.{flat_map, AllByRecursion as Each}
+use Rattle.std.proofs.Common.{◌≡◌, inl, inr, ⊎_elim, ℕ, ◌*◌, ◌≤◌, ℤ, pos, negsuc, unsigned_abs, List, ◌∷◌, ◌++◌, map, Some, None, slice_get, All, Contains, refl, sym, subst, arith}
+use Rattle.std.specs.List.{flat_map}
 use Rattle.std.proofs.lemmas.Bool.{cases_lt}
 use Rattle.std.proofs.Math.Nat.{mul_comm}
 use Rattle.std.proofs.lemmas.List.Elements.{All-contains, All-from_recursion}
@@ -14,7 +14,6 @@ use Rattle.ir_core.specs.declared.constant.TypedCount.{TypedCount}
 use Rattle.ir_core.specs.declared.module.SymId.{SymId}
 use Rattle.ir_core.specs.declared.module.GlobalVar.{GlobalVar}
 use Rattle.ir_core.specs.declared.module.Module.{Module}
-use Rattle.ir_core.specs.declared.op.LocalId.{LocalId}
 use Rattle.ir_core.specs.declared.op.Operand.{Operand}
 use Rattle.ir_core.specs.declared.op.Operand.TheVariants as operands
 use Rattle.ir_core.specs.declared.op.TypedOperand.{TypedOperand}
@@ -28,18 +27,18 @@ use Rattle.ir_core.specs.declared.func.Instr.{Instr}
 use Rattle.ir_core.specs.declared.func.Block.{Block}
 use Rattle.ir_core.specs.declared.func.Func.{Func}
 use Rattle.ir_core.specs.declared.func.Param.{Param}
-use Rattle.ir_core.specs.Parts.{instrs, op_types, op_values, end_types, end_values, operand_consts, const_types}
+use Rattle.ir_core.specs.Parts.{instrs, op_values, end_types, end_values, operand_consts, const_types}
 use Rattle.ir_core.specs.Sizes.{IsLaid, size}
 use Rattle.ir_core.specs.Operands.{Step, Does, Ends, steps, place_of}
 use Rattle.ir_core.specs.Instructions.{count_of}
 use Rattle.ir_core.specs.Proper.{IsCount, HasItsCount, IsProper, IsProperFunc}
 use Rattle.ir_core.specs.Valid.{IsValid}
-use Rattle.ir_core.specs.ValidTypes.{TypeUse, value_use, value_uses, op_uses, types_in_values, step_uses, func_uses, type_uses, const_sources, sources_in_values, op_sized, step_sized, IsTooLarge, MakesTooMuch}
-use Rattle.ir_core.proofs.Lists.{Has, each_from, has_left, has_right, has_part, has_at, has_mapped, contains, all_at}
+use Rattle.ir_core.specs.ValidTypes.{value_use, value_uses, op_uses, types_in_values, step_uses, func_uses, type_uses, const_sources, sources_in_values, op_sized, step_sized, IsTooLarge, MakesTooMuch}
+use Rattle.ir_core.proofs.Lists.{Has, each_from, has_right, has_part, has_at, has_mapped, contains, all_at}
 use Rattle.module_rules.proofs.LaidUses.{use_laid}
 use Rattle.module_rules.proofs.InnerTypes.{small_size}
 use Rattle.ir_safety.proofs.PlainSources.{is_instr, does, ends}
-use Rattle.site_inliner.specs.Measured.{IsMeasured, IsMeasuredConst, IsMeasuredValue, AreMeasured, IsMeasuredOp, IsMeasuredEnd, IsMeasuredCode, IsMeasuredBlock, IsMeasuredFunc}
+use Rattle.site_inliner.specs.Measured.{IsMeasured, IsMeasuredConst, IsMeasuredValue, IsMeasuredOp, IsMeasuredEnd, IsMeasuredBlock, IsMeasuredFunc}
 
 -- ---- the source type of a constant `getelementptr` among values
 

@@ -1,5 +1,5 @@
 -- No name of a module or a function stands twice among its numbers, and where a name stands among them.
-use Rattle.std.proofs.Common.{◌≡◌, ◌≢◌, inl, inr, ℕ, zero, suc, ◌+◌, ◌<◌, ◌==◌, ◌||◌, Bool, true, false, not, cond, nat_eq, List, [], ◌∷◌, ◌++◌, map, length, Option, Some, None, slice_get, refl, sym, ap, ◌∙◌, subst, arith}
+use Rattle.std.proofs.Common.{◌≡◌, ◌≢◌, ℕ, zero, suc, ◌+◌, ◌<◌, ◌==◌, ◌||◌, Bool, not, cond, nat_eq, List, [], ◌∷◌, ◌++◌, map, length, Option, Some, None, slice_get, refl, sym, ap, ◌∙◌, subst, arith}
 use Rattle.std.specs.List.{flat_map, filter_map, cons_option, list_any, position_or_len}
 use Rattle.std.specs.Option.{option_map}
 use Rattle.std.proofs.lemmas.Bool.Decides.{nat_tests}
@@ -21,7 +21,7 @@ use Rattle.ir_core.specs.Instructions.{func_number as function_number, is_named}
 use Rattle.ir_core.specs.Constants.{global_number as global_position, is_global}
 use Rattle.ir_core.specs.Valid.{IsValid, IsValidFunc}
 use Rattle.ir_core.specs.ValidModule.{Introduced, introduced, introduced_globals, introduced_funcs}
-use Rattle.ir_core.proofs.Lists.{Has, Apart, all_at, each_of, has_at, apart_mapped, mapped_parts}
+use Rattle.ir_core.proofs.Lists.{Apart, all_at, each_of, has_at, apart_mapped, mapped_parts}
 use Rattle.module_rules.specs.Faults.{numbers_of, global_number}
 use Rattle.module_rules.proofs.Distinct.{IsDistinct, distinct_numbers, at_in_first, at_in_next}
 use Rattle.ir_safety.proofs.Elements.{mapped_twice}

@@ -14,14 +14,13 @@ use Rattle.ir_safety.proofs.TypeSizes.{array_out}
 use Rattle.ir_safety.proofs.OperandMeanings.{bytes, bytes_joined}
 use Rattle.ir_core.specs.declared.constant.TypedCount.{TypedCount}
 use Rattle.ir_core.specs.declared.op.TypedOperand.{TypedOperand}
-use Rattle.ir_core.specs.Sizes.{IsLaid, resolved, struct_types, types_in, fields, layout, offset, offset_from, offset_after, empty, after, size}
-use Rattle.ir_core.specs.Constants.{Index, Path, joined, empty_path, over, into, inside, element, element_of, walk, path, path_bytes, all_bytes, term_bytes, constant_index, field_number}
-use Rattle.ir_core.specs.Instructions.{typed, index}
-use Rattle.ir_core.specs.ValidTypes.{IsTooLarge}
+use Rattle.ir_core.specs.Sizes.{resolved, struct_types, types_in, fields, layout, offset, offset_from, empty, after}
+use Rattle.ir_core.specs.Constants.{Index, Path, joined, empty_path, into, inside, element, element_of, walk, path_bytes, constant_index, field_number}
+use Rattle.ir_core.specs.Instructions.{index}
 use Rattle.ir_core.specs.ValidConsts.{GoesInto}
 use Rattle.ir_core.specs.ValidConsts.{Index as ConstIndex}
 use Rattle.ir_core.specs.Plain.{other_term, numbers}
-use Rattle.module_rules.proofs.InnerTypes.{into_laid, into_small, small_size}
+use Rattle.module_rules.proofs.InnerTypes.{into_laid, into_small}
 use Rattle.site_inliner.specs.Measured.{IsMeasured}
 use Rattle.site_inliner.specs.Parts.{Part, terms_in}
 

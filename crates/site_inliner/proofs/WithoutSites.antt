@@ -1,5 +1,5 @@
 -- The expanded body of a function in which no site is inlined.
-use Rattle.std.proofs.Common.{◌≡◌, ℕ, ◌+◌, ◌==◌, Bool, true, false, cond, if◌then◌else◌, List, [], ◌∷◌, ◌++◌, length, map, slice_get, Option, Some, None, refl, sym, ap, ap₂, ◌∙◌}
+use Rattle.std.proofs.Common.{◌≡◌, ℕ, ◌+◌, ◌==◌, Bool, true, false, cond, List, [], ◌∷◌, ◌++◌, length, map, slice_get, Option, Some, None, refl, sym, ap, ap₂, ◌∙◌}
 use Rattle.std.specs.Prelude.{◌&&◌, not}
 use Rattle.std.specs.List.{flat_map, filter_map, cons_option, position_or_len}
 use Rattle.std.specs.Option.{option_map}
@@ -20,12 +20,11 @@ use Rattle.ir_core.specs.declared.module.Module.{Module}
 use Rattle.ir_core.specs.Instructions.{block_rows}
 use Rattle.ir_core.specs.Source.{is_labelled}
 use Rattle.ir_core.specs.Plain.{Numbers, numbers, registers, results, is_local, renumbered, other_phi, other_instr, other_end, plain_body}
-use Rattle.ir_core.proofs.Lists.{mapped_parts}
 use Rattle.call_graph.specs.declared.sites.Site.{Site}
 use Rattle.call_graph.specs.Sites.{site_of, block_sites}
 use Rattle.shapes.specs.Tree.{node, none}
-use Rattle.site_inliner.specs.Segments.{Triple, Pair, Segment, Begin, AtBlock, AfterCall, Finish, AtEnd, AtCall, after, rest_of, from_instr, next_site, inlined_here, of_blocks, first_site}
-use Rattle.site_inliner.specs.Flat.{pair, params_of, pairs_of, is_pair, is_first, is_last, reg_at, to_first, to_last, leave, block_of, body_of, flat}
+use Rattle.site_inliner.specs.Segments.{Pair, Segment, Begin, AtBlock, AtEnd, after, rest_of, from_instr, next_site, inlined_here, of_blocks, first_site}
+use Rattle.site_inliner.specs.Flat.{pair, params_of, pairs_of, is_pair, is_first, is_last, to_first, to_last, leave, block_of, body_of, flat}
 
 -- a block as one segment
 abbrev whole_from : ℕ → End → Begin → List Instr → Segment

@@ -1,10 +1,8 @@
 -- The expanded body of a tree's function: its segments as blocks, where blocks and registers have their positions in textual
 -- order as numbers.
-use Rattle.std.specs.Prelude.{ℕ, ◌==◌, Bool, true, false, ◌&&◌, if◌then◌else◌, List, [], ◌∷◌, ◌++◌, length, map, slice_get, Option, Some, None}
+use Rattle.std.specs.Prelude.{ℕ, ◌==◌, Bool, true, false, ◌&&◌, List, [], ◌∷◌, ◌++◌, length, map, slice_get, Option, Some, None}
 use Rattle.std.specs.List.{flat_map, filter_map, position_or_len}
 use Rattle.std.specs.Option.{option_map, option_map_or}
-use Rattle.oi_base.specs.declared.ids.RegId.{RegId}
-use Rattle.ir_core.specs.declared.flat.FlatOp.{FlatOp}
 use Rattle.ir_core.specs.declared.flat.Entry.{Entry}
 use Rattle.ir_core.specs.declared.flat.Phi.{Phi}
 use Rattle.ir_core.specs.declared.flat.FlatInstr.{FlatInstr}

@@ -2,6 +2,9 @@ pub mod Segments
 pub mod Flat
 pub mod Replaced
 pub mod Expanded
+pub mod Placed
+pub mod Extents
+pub mod Points
 pub mod Worked
 pub mod Measured
 pub mod Parts

@@ -1,5 +1,5 @@
 -- Types whose sizes and offsets can be told, and the instructions, phis and terminators that ask for such types alone.
-use Rattle.std.specs.Prelude.{◌*◌, ◌≤◌, List, Option, Some, None, All, ⊤}
+use Rattle.std.specs.Prelude.{◌*◌, ◌≤◌, List, Some, None, All, ⊤}
 use Rattle.ir_core.specs.declared.limits.TheConstants.{LARGEST}
 use Rattle.ir_core.specs.declared.ty.TypeDef.{TypeDef}
 use Rattle.ir_core.specs.declared.ty.IrType.{IrType}

@@ -1,6 +1,6 @@
 -- The parts of a function's plain body, each by itself.
-use Rattle.std.specs.Prelude.{◌≡◌, ℕ, ◌+◌, ◌%◌, ◌<◌, List, [], ◌∷◌, ◌++◌, map, length, Option, Some, None}
-use Rattle.std.specs.List.{flat_map, filter_map}
+use Rattle.std.specs.Prelude.{ℕ, ◌%◌, List, [], ◌∷◌, ◌++◌, map, Option, Some, None}
+use Rattle.std.specs.List.{flat_map}
 use Rattle.std.specs.Option.{option_map}
 use Rattle.oi_base.specs.declared.ids.RegId.{RegId}
 use Rattle.oi_base.specs.declared.ids.BlockId.{BlockId}
@@ -14,7 +14,6 @@ use Rattle.ir_core.specs.declared.flat.FlatInstr.TheVariants.{Store, Gep}
 use Rattle.ir_core.specs.declared.flat.FlatEnd.{FlatEnd}
 use Rattle.ir_core.specs.declared.flat.FlatBlock.{FlatBlock}
 use Rattle.ir_core.specs.declared.ty.IrType.{IrType}
-use Rattle.ir_core.specs.declared.module.SymId.{SymId}
 use Rattle.ir_core.specs.declared.module.Module.{Module}
 use Rattle.ir_core.specs.declared.op.LocalId.{LocalId}
 use Rattle.ir_core.specs.declared.op.Operand.{Operand}
@@ -28,7 +27,7 @@ use Rattle.ir_core.specs.declared.func.Block.{Block}
 use Rattle.ir_core.specs.declared.func.Func.{Func}
 use Rattle.ir_core.specs.declared.func.Param.{Param}
 use Rattle.ir_core.specs.Constants.{Path, path, scalar_of, aligned_as}
-use Rattle.ir_core.specs.Instructions.{register, target, operand, index, call, instruction, entry, phi, switch_case, terminator, block_rows}
+use Rattle.ir_core.specs.Instructions.{register, target, operand, index, instruction, entry, phi, switch_case, terminator, block_rows}
 use Rattle.ir_core.specs.Plain.{other_reg, other_block, other_operand, other_term, other_instr, other_entry, other_phi, other_case, other_end, renumbered, numbers}
 
 -- a function, and the module in which it stands

@@ -8,7 +8,7 @@ use Rattle.ir_core.specs.declared.flat.Phi.{Phi}
 use Rattle.ir_core.specs.declared.flat.FlatInstr.{FlatInstr}
 use Rattle.ir_core.specs.declared.flat.FlatInstr.TheVariants.{Copy, Call}
 use Rattle.ir_core.specs.declared.flat.FlatEnd.{FlatEnd}
-use Rattle.ir_core.specs.declared.flat.FlatEnd.TheVariants.{Ret, Br, Cond, Switch, Unreachable}
+use Rattle.ir_core.specs.declared.flat.FlatEnd.TheVariants.{Ret, Br}
 use Rattle.ir_core.specs.declared.flat.FlatBlock.{FlatBlock}
 use Rattle.ir_core.specs.declared.flat.FlatBody.{FlatBody}
 use Rattle.ir_core.specs.Formed.{written_by, writes}

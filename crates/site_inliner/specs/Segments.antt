@@ -1,9 +1,8 @@
 -- The blocks of a function in which calls give way to the bodies of their callees, spelled out by call strings. The empty
 -- string stands for the function itself; a string followed by an inlined site of the function to which it leads is a string.
 -- Inlined sites cut a block into segments, and a block of the expanded body is a string, a block and a segment of it.
-use Rattle.std.specs.Prelude.{ℕ, suc, ◌+◌, ◌==◌, Bool, ◌&&◌, if◌then◌else◌, List, [], ◌∷◌, ◌++◌, length, map, take, bytes_eq, slice_get, Option, Some, None}
-use Rattle.std.specs.List.{flat_map, filter_map}
-use Rattle.std.specs.Option.{option_map, option_map_or}
+use Rattle.std.specs.Prelude.{ℕ, suc, ◌+◌, ◌==◌, if◌then◌else◌, List, [], ◌∷◌, ◌++◌, length, map, take, slice_get, Option, Some, None}
+use Rattle.std.specs.Option.{option_map_or}
 use Rattle.oi_base.specs.declared.ids.FuncId.{FuncId}
 use Rattle.ir_core.specs.declared.op.LocalId.{LocalId}
 use Rattle.ir_core.specs.declared.op.TypedOperand.{TypedOperand}
@@ -12,7 +11,6 @@ use Rattle.ir_core.specs.declared.op.Op.TheVariants.{Call}
 use Rattle.ir_core.specs.declared.op.End.{End}
 use Rattle.ir_core.specs.declared.func.Instr.{Instr}
 use Rattle.ir_core.specs.declared.func.Block.{Block}
-use Rattle.ir_core.specs.declared.func.Param.{Param}
 use Rattle.ir_core.specs.declared.func.Func.{Func}
 use Rattle.ir_core.specs.declared.module.Module.{Module}
 use Rattle.call_graph.specs.declared.sites.Site.{Site}

@@ -1,9 +1,9 @@
 -- What a step into a type says: what an index adds to an address, and the type to which it leads.
-use Rattle.std.specs.Prelude.{ℕ, ◌+◌, List, [], ⊤, IfSome, unwrap_or}
+use Rattle.std.specs.Prelude.{List, [], IfSome, unwrap_or}
 use Rattle.std.specs.Option.{option_copied}
 use Rattle.ir_core.specs.declared.ty.TypeDef.{TypeDef}
 use Rattle.ir_core.specs.declared.ty.IrType.{IrType, Void}
-use Rattle.ir_core.specs.Constants.{Index, Path, over, all_bytes}
+use Rattle.ir_core.specs.Constants.{Index, Path, over}
 use Rattle.site_inliner.specs.declared.offsets.Inward.{Inward}
 use Rattle.site_inliner.specs.declared.offsets.Inward.TheVariants.{Elements, Field}
 use Rattle.site_inliner.specs.Measured.{IsMeasured}

@@ -1,5 +1,5 @@
 -- Expanded bodies of small modules, worked out; the expected bodies are those of an independent model.
-use Rattle.std.specs.Prelude.{◌≡◌, ℕ, List, [], ◌∷◌, codes, Option, Some, None}
+use Rattle.std.specs.Prelude.{◌≡◌, ℕ, List, [], ◌∷◌, codes, Some, None}
 use Rattle.oi_base.specs.declared.ids.RegId.{RegId}
 use Rattle.oi_base.specs.declared.ids.BlockId.{BlockId}
 use Rattle.oi_base.specs.declared.ids.FuncId.{FuncId}
@@ -18,17 +18,18 @@ use Rattle.ir_core.specs.declared.flat.FlatEnd.{FlatEnd}
 use Rattle.ir_core.specs.declared.flat.FlatEnd.TheVariants.{Ret, Br, Cond}
 use Rattle.ir_core.specs.declared.flat.FlatBlock.{FlatBlock}
 use Rattle.ir_core.specs.declared.flat.FlatBody.{FlatBody}
-use Rattle.ir_core.specs.declared.ty.IrType.{IrType, Void, Int, Ptr}
+use Rattle.ir_core.specs.declared.ty.IrType.{Void, Int}
 use Rattle.ir_core.specs.declared.op.LocalId.{LocalId}
 use Rattle.ir_core.specs.declared.op.Op.TheVariants as ops
 use Rattle.ir_core.specs.declared.op.End.{End}
 use Rattle.ir_core.specs.declared.op.End.TheVariants as ends
 use Rattle.ir_core.specs.declared.func.Func.{Func}
 use Rattle.ir_core.specs.declared.module.Module.{Module}
-use Rattle.ir_core.specs.SourceExamples.{reg, number, the, sets, does, block, returns, from, function, declared, call, load, store}
+use Rattle.ir_core.specs.SourceExamples.{reg, number, the, sets, does, block, returns, from, function, call, load, store}
 use Rattle.shapes.specs.Tree.{Tree, node, none, more}
 use Rattle.site_inliner.specs.Flat.{flat}
 use Rattle.site_inliner.specs.Expanded.{expanded}
+use Rattle.site_inliner.specs.Placed.{placed_body}
 
 -- ---- words
 
@@ -119,10 +120,11 @@ nested = module_of (codes "main" ∷ codes "a" ∷ codes "b" ∷ codes "putchar"
 
 -- ---- bodies
 
--- by call strings, and one call replaced after another
+-- by call strings, one call replaced after another, and by where bodies lie in it
 pub record IsBody (m : Module) (t : Tree) (body : FlatBody) : Type 0 where
   pub by_strings : flat m t ≡ Some body
   pub by_calls : expanded m t ≡ Some body
+  pub by_places : placed_body m t ≡ body
 
 pub record WorkedBodies : Type 0 where
   pub once_inlined : IsBody once (node (fn 0) 0 (more (site 1) (node (fn 1) 0 none) none)) ((record {

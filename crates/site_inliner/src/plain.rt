@@ -2,7 +2,7 @@ ghost use Rattle.std.specs.Prelude.{◌≡◌, ◌<◌, ◌++◌, ℕ, Some, [],
 ghost use Rattle.std.specs.List.{filter_map, cons_option};
 ghost use Rattle.ir_core.specs.Plain.{plain_body, plain_program};
 ghost use Rattle.site_inliner.specs.Measured.{IsMeasuredCode, IsMeasuredOp, IsMeasuredBlock, IsMeasuredFunc};
-ghost use Rattle.site_inliner.specs.Parts.{Part, instr_row, instr_phi, block_of};
+ghost use Rattle.site_inliner.specs.Parts.{Part, instr_row, instr_phi, block_of, func_number};
 
 use crate::locals::Locals;
 use crate::names::{few, func_numbers, label_numbers, register_numbers};
@@ -77,8 +77,34 @@ impl<'a> Bodies<'a> {
         locals.body(alloc)
     }
 
+    /// The module.
+    pub(crate) fn source(&self) -> &Module
+        ensures { result.now ≡ self.now }
+    {
+        self.source
+    }
+
+    /// The names of its functions.
+    pub(crate) fn defined(&self) -> &Numbers
+        ensures { result.now ≡ map func_number self.now.funcs }
+    {
+        &self.funcs
+    }
+
+    /// A function by its position.
+    pub(crate) fn func(&self, f: FuncId) -> &Func
+        requires { f.0 < length self.now.funcs }
+        ensures { slice_get self.now.funcs f.0 ≡ Some result.now }
+    {
+        &self.source.funcs.as_slice()[f.0 as usize]
+    }
+
     /// The names of a function.
-    fn locals<'b>(&'b self, alloc: Global, func: &'b Func) -> Result<Locals<'b>, NoMemory>
+    pub(crate) fn locals<'b>(
+        &'b self,
+        alloc: Global,
+        func: &'b Func,
+    ) -> Result<Locals<'b>, NoMemory>
         requires { (g : ℕ) × (slice_get self.now.funcs g ≡ Some func.now) }
         ensures same { IfOk result (λ l. l ≡ record { source = self.now; func = func.now }) }
         ensures measured { IfOk result (λ l. IsMeasuredFunc l.source.types.defs l.func) }

@@ -1,7 +1,7 @@
-use Rattle.std.proofs.Common.{◌≡◌, refl, sym, ap, ◌∙◌, subst, Option}
+use Rattle.std.proofs.Common.{refl, sym, ap, ◌∙◌, subst}
 use Rattle.std.specs.Prelude.{unwrap_or, IfSome}
 use Rattle.std.specs.Option.{option_copied}
-use Rattle.ir_core.specs.declared.ty.IrType.{IrType, Void}
+use Rattle.ir_core.specs.declared.ty.IrType.{Void}
 use Rattle.ir_core.specs.Constants.{constant_index}
 use Rattle.module_rules.proofs.Folds.{cut}
 use Rattle.site_inliner.specs.Measured.{IsMeasured}

@@ -1,10 +1,9 @@
-use Rattle.std.proofs.Common.{◌≡◌, ℕ, ◌+◌, ◌≤◌, List, Option, Some, None, slice_get, sym, ap, ◌∙◌, arith}
+use Rattle.std.proofs.Common.{◌≡◌, ℕ, Option, Some, None, slice_get, sym, ap, ◌∙◌, arith}
 use Rattle.std.specs.Prelude.{unwrap_or}
 use Rattle.std.specs.Option.{option_copied}
 use Rattle.std.proofs.Math.Nat.{min-eq_left}
-use Rattle.ir_core.specs.declared.limits.TheConstants.{LARGEST}
 use Rattle.ir_core.specs.declared.ty.IrType.{IrType, Void}
-use Rattle.ir_core.specs.Sizes.{size, fields, offset}
+use Rattle.ir_core.specs.Sizes.{fields, offset}
 use Rattle.ir_core.specs.Constants.{element, element_of, over, into, inside}
 use Rattle.module_rules.proofs.InnerTypes.{small_size}
 use Rattle.site_inliner.proofs.PathLaws.{item_measured, fields_measured, bytes_alone}

@@ -1,6 +1,6 @@
 use Rattle.std.proofs.Common.{ap, ◌∙◌}
 use Rattle.site_inliner.proofs.NamesOnce.{block_at}
-use Rattle.site_inliner.specs.Parts.{Part, reg_in, block_in}
+use Rattle.site_inliner.specs.Parts.{Part, block_in}
 use Rattle.site_inliner.proofs.locals.Locals.block.Goals as goal
 
 pub returns : goal.returns

@@ -1,7 +1,7 @@
 use Rattle.std.proofs.Common.{ap, ◌∙◌}
 use Rattle.ir_core.specs.Instructions.{func_number as function_number}
 use Rattle.site_inliner.proofs.NamesOnce.{func_found}
-use Rattle.site_inliner.specs.Parts.{Part, reg_in, block_in}
+use Rattle.site_inliner.specs.Parts.{Part}
 use Rattle.site_inliner.proofs.locals.Locals.callee.Goals as goal
 
 pub returns : goal.returns

@@ -1,7 +1,7 @@
 use Rattle.std.proofs.Common.{ap, ◌∙◌}
 use Rattle.ir_core.specs.Constants.{global_number as global_position}
 use Rattle.site_inliner.proofs.NamesOnce.{global_found}
-use Rattle.site_inliner.specs.Parts.{Part, reg_in, block_in}
+use Rattle.site_inliner.specs.Parts.{Part}
 use Rattle.site_inliner.proofs.locals.Locals.global.Goals as goal
 
 pub returns : goal.returns

@@ -1,7 +1,7 @@
 use Rattle.std.proofs.Common.{ap, ◌∙◌}
 use Rattle.ir_core.specs.Parts.{is_defined}
 use Rattle.site_inliner.proofs.NamesOnce.{defined_found}
-use Rattle.site_inliner.specs.Parts.{Part, reg_in, block_in}
+use Rattle.site_inliner.specs.Parts.{Part}
 use Rattle.site_inliner.proofs.locals.Locals.is_defined.Goals as goal
 
 pub returns : goal.returns

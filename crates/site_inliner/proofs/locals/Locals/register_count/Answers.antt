@@ -1,7 +1,7 @@
 use Rattle.std.proofs.Common.{length, ap, ◌∙◌}
 use Rattle.ir_core.specs.Plain.{registers}
 use Rattle.site_inliner.proofs.NamesOnce.{count_registers}
-use Rattle.site_inliner.specs.Parts.{Part, reg_in, block_in}
+use Rattle.site_inliner.specs.Parts.{Part}
 use Rattle.site_inliner.proofs.locals.Locals.register_count.Goals as goal
 
 pub returns : goal.returns

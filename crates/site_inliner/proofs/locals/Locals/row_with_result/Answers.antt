@@ -1,4 +1,4 @@
-use Rattle.std.proofs.Common.{map, Some, None, sym, ap, ◌∙◌}
+use Rattle.std.proofs.Common.{map, Some, sym, ap, ◌∙◌}
 use Rattle.std.specs.Option.{option_map}
 use Rattle.ir_core.specs.Instructions.{call}
 use Rattle.site_inliner.specs.Parts.{reg_in, typed_in, row_in}

@@ -2,7 +2,6 @@ use Rattle.std.proofs.Common.{ap, ◌∙◌, map, sym, subst, slice_get}
 use Rattle.ir_core.specs.declared.module.Module.{Module}
 use Rattle.site_inliner.specs.Measured.{IsMeasuredFunc}
 use Rattle.site_inliner.proofs.MeasuredFuncs.{measured}
-use Rattle.ir_core.specs.declared.func.Block.{Block}
 use Rattle.module_rules.specs.Faults.{numbers_of}
 use Rattle.site_inliner.specs.Parts.{Part, label_number}
 use Rattle.site_inliner.proofs.NamesOnce.{found_registers, found_labels}
