@@ -1,5 +1,5 @@
 -- The value of a tree of the search, how many nodes it has, and the map that its taken leaves decide.
-use Rattle.std.specs.Prelude.{ℕ, ◌+◌, Bool, true, false, nat_lt, if◌then◌else◌, List, [], ◌∷◌, Some, None}
+use Rattle.std.specs.Prelude.{ℕ, ◌+◌, max, Bool, true, false, nat_lt, if◌then◌else◌, List, [], ◌∷◌, Some, None}
 use Rattle.decisions.specs.declared.maps.Label.TheVariants.{Keep, Inline}
 use Rattle.component_split.specs.Graph.{SiteGraph, Labels, with_label, has}
 use Rattle.component_split.specs.Split.{components}
@@ -30,6 +30,18 @@ abbrev mutual
   pub visits_of : Parts → ℕ
   visits_of done = 0
   visits_of (more t ts) = visits t + visits_of ts
+
+-- of the root 1
+abbrev mutual
+  pub depth : Tree → ℕ
+  depth (leaf v) = 1
+  depth (branch s k i) = 1 + max (depth k) (depth i)
+  depth (cut s k b) = 1 + max (depth k) 1
+  depth (split hs ts) = 1 + depth_of ts
+
+  pub depth_of : Parts → ℕ
+  depth_of done = 0
+  depth_of (more t ts) = max (depth t) (depth_of ts)
 
 -- whether the inline child is taken: it has a value, and the keep child has none or a greater one
 abbrev pub takes_inline : Size → Size → Bool

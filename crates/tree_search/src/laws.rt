@@ -1,4 +1,5 @@
-ghost use Rattle.std.specs.Prelude.{◌≡◌, ◌+◌, ◌≤◌, ℕ, List, Some};
+ghost use Rattle.std.specs.Prelude.{◌≡◌, ◌+◌, ◌≤◌, ℕ, List, length, Some};
+ghost use Rattle.ir_core.specs.declared.limits.TheConstants.{MOST_SITES};
 ghost use Rattle.ir_core.specs.declared.module.Module as modules;
 ghost use Rattle.call_graph.specs.Graph as graphs;
 ghost use Rattle.component_split.specs.Graph.{SiteGraph, Labels, Distinct, Closed};
@@ -7,12 +8,12 @@ ghost use Rattle.component_split.specs.Over.{site_graph, reached_from};
 ghost use Rattle.component_split.specs.States.{none_decided};
 ghost use Rattle.inline_certificate.specs.declared.certificates.Certificate as certificates;
 ghost use Rattle.inline_certificate.specs.Trees as trees;
-ghost use Rattle.inline_certificate.specs.Trees.{preorder};
+ghost use Rattle.inline_certificate.specs.Trees.{preorder, IsIn, form_of};
 ghost use Rattle.shapes.specs.Over.{IsGraphOf};
 ghost use Rattle.size_measure.specs.Maps.{Map, Completes, map_of};
 ghost use Rattle.size_measure.specs.Sizes.{plus, IsAtMost, size};
 ghost use Rattle.cert_checker.specs.Worth.{Passes};
-ghost use Rattle.tree_search.specs.Values.{value, visits, pick};
+ghost use Rattle.tree_search.specs.Values.{value, visits, depth, pick};
 ghost use Rattle.tree_search.specs.Search.{Rules, IsTree, IsSearchTree, rules, rules_without_cuts};
 
 /// A state has one tree, whatever its leaves state and where inline children are cut. It does nothing: its contract is the law.
@@ -37,4 +38,11 @@ pub fn cuts_take_nothing_away()
     ensures value { (m : modules.Module) (g : graphs.Graph) (t u : trees.Tree) (p : Labels) (fs : List ℕ) → Closed (site_graph g) p fs → IsTree (site_graph g) (rules_without_cuts m g) p fs t → IsTree (site_graph g) (rules m g) p fs u → value t ≡ value u }
     ensures map { (m : modules.Module) (g : graphs.Graph) (t u : trees.Tree) (p : Labels) (fs : List ℕ) → Closed (site_graph g) p fs → IsTree (site_graph g) (rules_without_cuts m g) p fs t → IsTree (site_graph g) (rules m g) p fs u → (s : ℕ) → pick (site_graph g) p fs t s ≡ pick (site_graph g) p fs u s }
     ensures nodes { (t : trees.Tree) (u : counted.Tree) (g : graphs.Graph) (r : Rules) (p : Labels) (fs : List ℕ) → IsTree (site_graph g) r p fs t → counted.IsTree (site_graph g) p fs u → visits t ≤ counted.nodes u }
+{}
+
+/// The tree of the search of a graph of at most `MOST_SITES` sites is at most 8,194 nodes deep, and one that certificates of version
+/// 2 have. It does nothing: its contract is the law.
+pub fn a_search_tree_is_not_too_deep()
+    ensures depth { (m : modules.Module) (g : graphs.Graph) → IsGraphOf m g → length g.sites ≤ MOST_SITES → (t : trees.Tree) → IsSearchTree m g t → depth t ≤ 8194 }
+    ensures form { (m : modules.Module) (g : graphs.Graph) → IsGraphOf m g → length g.sites ≤ MOST_SITES → (t : trees.Tree) → IsSearchTree m g t → IsIn (form_of 2) 1 t }
 {}

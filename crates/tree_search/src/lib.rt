@@ -3,4 +3,7 @@
 
 mod laws;
 
-pub use laws::{a_state_has_one_search_tree, cuts_take_nothing_away, the_picked_map_is_least};
+pub use laws::{
+    a_search_tree_is_not_too_deep, a_state_has_one_search_tree, cuts_take_nothing_away,
+    the_picked_map_is_least,
+};
