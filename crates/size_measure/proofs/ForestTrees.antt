@@ -42,7 +42,7 @@ same_label (Some None) = refl
 same_label (Some (Some Keep)) = refl
 same_label (Some (Some Inline)) = refl
 
-inline_same : (p : Labels) (s : SiteId) → is_inline (kept_map p s.0) ≡ standing.is_inline (maps.label_of p s)
+pub inline_same : (p : Labels) (s : SiteId) → is_inline (kept_map p s.0) ≡ standing.is_inline (maps.label_of p s)
 unfolding labels
 inline_same p s = same_label (maps.label_of p s)
 
@@ -55,10 +55,10 @@ module _ (g : Graph) (s : SiteId) (x : SiteFacts) (is : SiteIs g s x) where
   unfolding callee_of
   callee_is = ap (λ (o : Option SiteFacts). option_map_or (λ (y : SiteFacts). y.site.callee.0) o 0) is
 
-  in_is : (f : FuncId) → is_in g f s ≡ nat_eq (caller_of g s.0) f.0
+  pub in_is : (f : FuncId) → is_in g f s ≡ nat_eq (caller_of g s.0) f.0
   in_is f = ap (λ (o : Option SiteFacts). option_map_or (λ (y : SiteFacts). y.site.caller.0 == f.0) o false) is ∙ sym (ap (λ (n : ℕ). nat_eq n f.0) caller_is)
 
-  callee_known : (h : FuncId) → standing.callee_of g s ≡ Some h → callee_of g s.0 ≡ h.0
+  pub callee_known : (h : FuncId) → standing.callee_of g s ≡ Some h → callee_of g s.0 ≡ h.0
   callee_known h e = callee_is ∙ ap (λ (k : FuncId). k.0) (one (sym (ap (λ (o : Option SiteFacts). option_map (λ (y : SiteFacts). y.site.callee) o) is) ∙ e))
     where
       one : Some x.site.callee ≡ Some h → x.site.callee ≡ h

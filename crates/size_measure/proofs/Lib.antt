@@ -5,4 +5,5 @@ pub mod SmallCodes
 pub mod Bounds
 pub mod ForestTrees
 pub mod KeptTold
+pub mod Keys
 pub mod LeastParts

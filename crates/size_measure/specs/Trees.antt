@@ -1,5 +1,5 @@
 -- The tree of a function under a map: each candidate in it that is labelled inline, with the tree of its callee.
-use Rattle.std.specs.Prelude.{ℕ, zero, suc, ◌+◌, ◌&&◌, nat_eq, if◌then◌else◌, List, [], ◌∷◌, length, Option}
+use Rattle.std.specs.Prelude.{Bool, false, ◌||◌, ℕ, zero, suc, ◌+◌, ◌&&◌, nat_eq, if◌then◌else◌, List, [], ◌∷◌, length, Option}
 use Rattle.ir_core.specs.declared.flat.FlatBody.{FlatBody}
 use Rattle.ir_core.specs.declared.module.Module.{Module}
 use Rattle.call_graph.specs.Graph.{Graph}
@@ -32,3 +32,12 @@ tree m g d f = tree_by m (site_graph g) d (length g.funcs) f
 -- the expanded body of a function under a map
 abbrev pub body : Module → Graph → Map → ℕ → Option FlatBody
 body m g d f = flat m (tree m g d f)
+
+-- the site is inlined somewhere in the tree
+abbrev mutual
+  pub reaches : Tree → ℕ → Bool
+  reaches (node f w ks) s = any_reaches ks s
+
+  pub any_reaches : Callees → ℕ → Bool
+  any_reaches none s = false
+  any_reaches (more q t ks) s = (nat_eq q.0 s || reaches t s) || any_reaches ks s

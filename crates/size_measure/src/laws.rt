@@ -16,7 +16,7 @@ ghost use Rattle.component_split.specs.Over.{site_graph, labels};
 ghost use Rattle.component_split.specs.Split.{component, roots};
 ghost use Rattle.size_measure.specs.Maps.{Map, Completes, AgreeInside, filled, map_of};
 ghost use Rattle.size_measure.specs.Kept.{is_kept};
-ghost use Rattle.size_measure.specs.Trees.{tree, body};
+ghost use Rattle.size_measure.specs.Trees.{tree, body, reaches};
 ghost use Rattle.size_measure.specs.Sizes.{Size, total, body_size, part};
 ghost use Rattle.size_measure.specs.Low.{is_settled, low, IsBound, IsLeastOf};
 
@@ -58,4 +58,11 @@ pub fn trees_of_forests_are_those_of_maps()
 /// nothing: its contract is the law.
 pub fn the_test_of_who_is_kept_is_exact()
     ensures { (g : graphs.Graph) (d : List (site_ids.SiteId × Label)) (f : func_ids.FuncId) → IsReached g f → (is_kept g (map_of d) f.0 ≡ true → IsKept g d f) × (IsKept g d f → is_kept g (map_of d) f.0 ≡ true) }
+{}
+
+/// Trees of one function are the same where the same sites are inlined somewhere in them, whatever the partial maps for which they
+/// stand: a function's number and the inlined sites that its tree reaches are a key of its expanded body. It does nothing: its
+/// contract is the law.
+pub fn the_reached_sites_are_a_key()
+    ensures { (m : modules.Module) (g : graphs.Graph) → IsGraphOf m g → (p q : standing.Labels) → sites_of p ≡ candidate_ids g → sites_of q ≡ candidate_ids g → (f : func_ids.FuncId) (t u : trees.Tree) → f.0 < length g.funcs → standing.IsTreeOf m g p f t → standing.IsTreeOf m g q f u → ((s : ℕ) → reaches t s ≡ reaches u s) → t ≡ u }
 {}
