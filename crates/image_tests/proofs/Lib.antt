@@ -1,0 +1,2 @@
+pub mod EachFunction
+pub mod ZeroBody
