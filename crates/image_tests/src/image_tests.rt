@@ -1,6 +1,6 @@
 use crate::codes::codes;
 use crate::modules::module;
-use elf_object::{Image, SymKind, Symbol};
+use elf_object::{Image, SymKind, Symbol, read_elf, write_elf};
 use image_layout::image;
 use std::alloc::Global;
 use std::test::Fail;
@@ -31,6 +31,18 @@ fn image_of(alloc: Global, globals: &str) -> Result<Image, Fail> {
     match image(alloc, &v, codes.as_slice()) {
         Ok(image) => Ok(image),
         Err(_) => Err("no image")?,
+    }
+}
+
+/// An image, once its object file is written and read.
+fn read_back(alloc: Global, image: &Image) -> Result<Image, Fail> {
+    let file = write_elf(alloc, image)?;
+    if file.len() >= 4_294_967_295 {
+        return Err("too long")?;
+    }
+    match read_elf(alloc, file.as_slice()) {
+        Ok(image) => Ok(image),
+        Err(_) => Err("no object")?,
     }
 }
 
@@ -76,7 +88,7 @@ fn images_of_globals(rt: HostRuntime) -> Result<(), Fail> {
     for line in IMAGES.lines() {
         let (globals, rest) = line.split_once('|').ok_or("no data")?;
         let (bytes, names) = rest.split_once('|').ok_or("no symbols")?;
-        let image = image_of(alloc, globals)?;
+        let image = read_back(alloc, &image_of(alloc, globals)?)?;
         assert_eq!(rt;
             digits(alloc, image.data_bytes.as_slice())?.as_str(),
             bytes,
