@@ -1,5 +1,5 @@
 -- A code for each function of a valid module, whose items wait for no address: such codes have an image.
-use Rattle.std.proofs.Common.{◌≡◌, ◌⊎◌, inl, inr, ℕ, ◌+◌, ◌<◌, ◌≤◌, List, [], ◌∷◌, ◌++◌, map, length, get_or, All, Option, Some, None, slice_get, refl, sym, ap, ◌∙◌, arith}
+use Rattle.std.proofs.Common.{◌≡◌, ◌⊎◌, inl, inr, ℕ, ◌+◌, ◌<◌, ◌≤◌, List, [], ◌∷◌, ◌++◌, map, length, get_or, All, Some, None, slice_get, refl, sym, ap, ◌∙◌, arith}
 use Rattle.std.specs.Option.{option_map}
 use Rattle.std.proofs.lemmas.Bool.{cases_lt}
 use Rattle.std.proofs.lemmas.List.{length-map, get_or-map, length_push, get_or_append_left, get_or_push}
@@ -8,7 +8,7 @@ use Rattle.std.proofs.lemmas.Option.{slice_get_past}
 use Rattle.oi_base.specs.declared.ids.FuncId.{FuncId}
 use Rattle.ir_core.specs.declared.flat.FlatBody.{FlatBody}
 use Rattle.ir_core.specs.declared.module.Module.{Module}
-use Rattle.ir_core.specs.Plain.{plain_body, plain_program}
+use Rattle.ir_core.specs.Plain.{plain_body}
 use Rattle.ir_core.specs.Source.{main_number}
 use Rattle.ir_core.specs.Valid.{IsValid}
 use Rattle.ir_safety.proofs.Callees.{has_main}
@@ -16,7 +16,7 @@ use Rattle.rv_select.specs.declared.item.Item.{Item}
 use Rattle.rv_select.specs.declared.item.Item.TheVariants.{Word, CallHigh, CallLow, AddressHigh, AddressLow}
 use Rattle.rv_select.specs.Code.{ArePaired}
 use Rattle.image_layout.specs.Addresses.{Codes}
-use Rattle.image_layout.specs.Codes.{HasCode, IsKnown, AreCodes}
+use Rattle.image_layout.specs.Codes.{IsKnown, AreCodes}
 use Rattle.image_tests.specs.Words.{IsWord}
 
 abbrev pub Coded : Type 0

@@ -1,9 +1,8 @@
 -- The body that returns 0 is well formed.
-use Rattle.std.proofs.Common.{ℕ, refl, arith, List, [], ◌∷◌, Some}
+use Rattle.std.proofs.Common.{refl, arith, [], ◌∷◌, Some}
 use Rattle.std.proofs.lemmas.List.Elements.{All-nil, All-cons}
 use Rattle.ir_core.specs.declared.flat.FlatBlock.{FlatBlock}
 use Rattle.ir_core.specs.declared.flat.FlatBody.{FlatBody}
-use Rattle.ir_core.specs.declared.flat.FlatInstr.{FlatInstr}
 use Rattle.ir_core.specs.declared.flat.FlatEnd.TheVariants.{Ret}
 use Rattle.ir_core.specs.declared.flat.FlatOp.TheVariants.{Word}
 use Rattle.ir_core.specs.WellFormed.{IsWellFormed}
