@@ -22,10 +22,7 @@ use Rattle.component_split.specs.Graph.{Closed, Distinct, has}
 use Rattle.component_split.specs.Over.{site_graph, site_numbers, caller_of, callee_of, keep_unless, labels, reached_from}
 use Rattle.component_split.specs.States.{none_decided}
 use Rattle.component_split.proofs.Known.{known}
-
-or_true : (b : Bool) → (b || true) ≡ true
-or_true true = refl
-or_true false = refl
+use Rattle.size_measure.proofs.Tests.{or_true}
 
 -- ---- sites that are no candidates are kept
 

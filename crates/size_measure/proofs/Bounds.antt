@@ -15,6 +15,7 @@ use Rattle.size_measure.specs.Sizes.{Size, plus, IsAtMost, total, body_size, hel
 use Rattle.size_measure.specs.Low.{all_of, settles, settled_by, is_settled, size_if, low_held, low, IsBound}
 use Rattle.size_measure.proofs.SameTrees.{AgreeFrom, tree_same, body_same, size_same}
 use Rattle.size_measure.proofs.SmallCodes.{least_body}
+use Rattle.size_measure.proofs.Tests.{keep_or, or_true}
 
 -- ---- numbers or none
 
@@ -40,21 +41,12 @@ total_mono v w h (f ∷ fs) = plus_mono (v f) (w f) (total v fs) (total w fs) (h
 
 -- ---- settled functions
 
-or_true : (b : Bool) → (b || true) ≡ true
-or_true true = refl
-or_true false = refl
-
 pub filled_completes : (l : Label) (p : Labels) → Completes (filled l p) p
 filled_completes l p s k e = rw e refl
 
 all_at : (t : ℕ → Bool) (ss : List ℕ) (s : ℕ) → all_of t ss ≡ true → has ss s ≡ true → t s ≡ true
 all_at t [] s h i = absurd (false≢true i)
 all_at t (q ∷ ss) s h i = let both = and_parts (t q) (all_of t ss) h in ⊎_elim (λ e. ap t (sym (eqb-true q s e)) ∙ both.0) (λ e. all_at t ss s both.1 e) (or_cases (nat_eq q s) (has ss s) i)
-
-keep_or : (o : Option Label) → (o ≡ Some Keep) ⊎ (o ≢ Some Keep)
-keep_or None = inr (λ e. absurd cc)
-keep_or (Some Inline) = inr (λ e. absurd cc)
-keep_or (Some Keep) = inl refl
 
 -- what a settled function says of a site in it
 abbrev Onward : SiteGraph → Labels → ℕ → Type 0

@@ -1,5 +1,5 @@
 -- The trees of a forest are those of its map, where undecided sites are kept.
-use Rattle.std.proofs.Common.{◌≡◌, ◌≢◌, ⊎_elim, ℕ, zero, suc, ◌+◌, ◌<◌, ◌≤◌, refl, sym, ap, ap₂, ◌∙◌, subst, arith, Bool, true, false, ◌&&◌, ◌||◌, ◌==◌, nat_eq, eqb, if◌then◌else◌, List, [], ◌∷◌, length, Option, Some, None, All, Contains}
+use Rattle.std.proofs.Common.{◌≡◌, ◌≢◌, ⊎_elim, ℕ, zero, suc, ◌+◌, ◌<◌, ◌≤◌, refl, sym, ap, ap₂, ◌∙◌, subst, arith, Bool, true, false, ◌&&◌, ◌==◌, nat_eq, eqb, if◌then◌else◌, List, [], ◌∷◌, length, Option, Some, None, All, Contains}
 use Rattle.std.specs.List.{filter, list_any, IsDistinct, AllByRecursion as Each}
 use Rattle.std.proofs.lemmas.Bool.{or_cases, and_parts, eqb-true, eq-eqb, false≢true}
 use Rattle.std.proofs.lemmas.Map.Keys.{IsDistinct-cons}
@@ -29,6 +29,7 @@ use Rattle.std.proofs.lemmas.Option.{slice_get_within}
 use Rattle.component_split.specs.Over.{site_graph, site_numbers, caller_of, callee_of, keep_unless, labels}
 use Rattle.size_measure.specs.Maps.{Map, is_inline, label_or, filled}
 use Rattle.size_measure.specs.Trees.{callees_of, tree_with, tree_by, tree}
+use Rattle.size_measure.proofs.Tests.{or_true}
 
 -- ---- sites
 
@@ -139,10 +140,6 @@ module _ (funcs : List Func) (free : Bool) where
   apart f [] lead = tt
   apart f (x ∷ fs) lead = (differs (eqb f x) refl, apart f fs (λ q h. lead q (rw h (or_true (eqb q x)))))
     where
-      or_true : (b : Bool) → (b || true) ≡ true
-      or_true true = refl
-      or_true false = refl
-
       differs : (b : Bool) → eqb f x ≡ b → eqb f x ≡ false
       differs false e = e
       differs true e = absurd (no_circle x f (lead x (let self : eqb x x ≡ true = eq-eqb x x refl in rw self refl)) (sym (eqb-true f x e)))

@@ -1,5 +1,5 @@
 -- What a map says of the functions of a closed set depends only on the labels of the sites inside it.
-use Rattle.std.proofs.Common.{◌≡◌, ◌≢◌, ◌⊎◌, inl, inr, ⊎_elim, ℕ, suc, ◌+◌, ◌-◌, refl, sym, ap, ap₂, ◌∙◌, subst, arith, Bool, true, false, ◌&&◌, ◌||◌, nat_eq, eq-eqb, List, [], ◌∷◌, length, slice_get, Option, Some, None}
+use Rattle.std.proofs.Common.{◌≡◌, ⊎_elim, ℕ, suc, ◌+◌, ◌-◌, refl, sym, ap, ap₂, ◌∙◌, subst, arith, Bool, true, false, ◌&&◌, ◌||◌, nat_eq, eq-eqb, List, [], ◌∷◌, length, slice_get, Option, Some}
 use Rattle.std.specs.Option.{option_map_or}
 use Rattle.std.proofs.lemmas.Bool.{and_from, eqb-true, false≢true, true≢false}
 use Rattle.ir_core.specs.declared.module.Module.{Module}
@@ -14,15 +14,7 @@ use Rattle.size_measure.specs.Kept.{is_reached, is_external, any_keeps, is_kept}
 use Rattle.size_measure.specs.Trees.{tree, body}
 use Rattle.size_measure.specs.Sizes.{Size, plus, total, body_size, held, held_if, part}
 use Rattle.size_measure.proofs.SameTrees.{AgreeFrom, tree_same, body_same, size_same}
-
-or_true : (b : Bool) → (b || true) ≡ true
-or_true true = refl
-or_true false = refl
-
-keep_or : (o : Option Label) → (o ≡ Some Keep) ⊎ (o ≢ Some Keep)
-keep_or None = inr (λ e. absurd cc)
-keep_or (Some Inline) = inr (λ e. absurd cc)
-keep_or (Some Keep) = inl refl
+use Rattle.size_measure.proofs.Tests.{keep_or, or_true}
 
 -- the sites of a graph from a number on are these
 abbrev pub StandAt : Graph → ℕ → List SiteFacts → Type 0

@@ -14,13 +14,10 @@ use Rattle.decisions.specs.Maps as maps
 use Rattle.function_removal.specs.Kept.{IsReached, IsExternal, KeepsCall, IsKept}
 use Rattle.size_measure.specs.Maps.{Map, map_of, label_or, is_keep}
 use Rattle.size_measure.specs.Kept.{is_reached, is_external, any_keeps, is_kept}
+use Rattle.size_measure.proofs.Tests.{or_true}
 
 abbrev pub Iff : Type 0 → Type 0 → Type 0
 Iff P Q = (P → Q) × (Q → P)
-
-or_true : (b : Bool) → (b || true) ≡ true
-or_true true = refl
-or_true false = refl
 
 -- ---- functions
 

@@ -1,14 +1,12 @@
 -- Trees of one function that reach the same inlined sites are the same, whatever the maps for which they stand.
-use Rattle.std.proofs.Common.{◌≡◌, ◌⊎◌, inl, inr, ⊎_elim, ℕ, ◌<◌, refl, sym, ap, ap₂, ◌∙◌, subst, Bool, true, false, ◌&&◌, ◌||◌, ◌==◌, nat_eq, eq-eqb, if◌then◌else◌, List, [], ◌∷◌, length, All, Option, Some, None}
+use Rattle.std.proofs.Common.{◌≡◌, ◌⊎◌, inl, inr, ⊎_elim, ℕ, ◌<◌, refl, sym, ap, ◌∙◌, subst, Bool, true, false, ◌&&◌, ◌||◌, ◌==◌, nat_eq, eq-eqb, if◌then◌else◌, List, [], ◌∷◌, length, All, Some}
 use Rattle.std.specs.List.{filter}
-use Rattle.std.specs.Option.{option_map_or}
 use Rattle.std.proofs.lemmas.Bool.{or_cases, and_parts, and_from, eqb-true, false≢true}
 use Rattle.std.proofs.lemmas.List.Elements.{All-head, All-tail}
 use Rattle.oi_base.specs.declared.ids.FuncId.{FuncId}
 use Rattle.oi_base.specs.declared.ids.SiteId.{SiteId}
 use Rattle.ir_core.specs.declared.module.Module.{Module}
-use Rattle.call_graph.specs.declared.facts.SiteFacts.{SiteFacts}
-use Rattle.call_graph.specs.Graph.{Graph, candidate_ids, SiteIs, IsCandidateOf}
+use Rattle.call_graph.specs.Graph.{Graph, candidate_ids, IsCandidateOf}
 use Rattle.decisions.specs.declared.maps.Label.{Label}
 use Rattle.decisions.specs.declared.maps.Label.TheVariants.{Keep, Inline}
 use Rattle.decisions.specs.Maps as maps
@@ -17,18 +15,15 @@ use Rattle.shapes.specs.Over.{IsGraphOf, sites_of}
 use Rattle.shapes.specs.Standing as standing
 use Rattle.shapes.specs.Standing.{Labels, is_in, inline_sites, StandsFor, AllStandFor, IsTreeOf}
 use Rattle.shapes.specs.Reaching.{has_func, have_func}
-use Rattle.shapes.proofs.Sites.{IsInlineIn, all_candidates, all_inline}
-use Rattle.component_split.specs.Graph.{SiteGraph, has}
+use Rattle.shapes.proofs.Sites.{IsInlineIn, all_inline}
+use Rattle.component_split.specs.Graph.{has}
 use Rattle.component_split.specs.Over.{site_graph, site_numbers, caller_of, callee_of}
 use Rattle.component_split.proofs.Known.{known}
-use Rattle.size_measure.specs.Maps.{Map, is_inline, label_or, filled}
+use Rattle.size_measure.specs.Maps.{Map, is_inline}
 use Rattle.size_measure.specs.Trees.{tree, reaches, any_reaches}
 use Rattle.size_measure.proofs.SameTrees.{AgreeFrom, tree_same}
 use Rattle.size_measure.proofs.ForestTrees.{kept_map, inline_same, in_is, callee_known, forest_tree}
-
-or_true : (b : Bool) → (b || true) ≡ true
-or_true true = refl
-or_true false = refl
+use Rattle.size_measure.proofs.Tests.{or_true}
 
 -- the map in which exactly these sites are inline
 abbrev inlines : Tree → Map

@@ -1,3 +1,4 @@
+pub mod Tests
 pub mod SameTrees
 pub mod Sums
 pub mod Independent

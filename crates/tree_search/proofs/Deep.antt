@@ -1,5 +1,5 @@
 -- The tree of a module's search is that of a certificate of version 2.
-use Rattle.std.proofs.Common.{◌≡◌, ℕ, ◌+◌, ◌*◌, ◌≤◌, refl, sym, ap, ◌∙◌, arith, Bool, true, false, ◌&&◌, List, [], ◌∷◌, length, map, cond, if◌then◌else◌}
+use Rattle.std.proofs.Common.{ℕ, ◌+◌, ◌≤◌, arith, Bool, true, false, ◌&&◌, List, [], ◌∷◌, length, cond, if◌then◌else◌}
 use Rattle.std.specs.List.{filter}
 use Rattle.std.proofs.lemmas.List.{length-map}
 use Rattle.oi_base.specs.declared.ids.SiteId.{SiteId}
@@ -8,7 +8,7 @@ use Rattle.ir_core.specs.declared.module.Module.{Module}
 use Rattle.call_graph.specs.declared.facts.SiteFacts.{SiteFacts}
 use Rattle.call_graph.specs.Graph.{Graph, candidates_from, candidate_ids}
 use Rattle.shapes.specs.Over.{IsGraphOf}
-use Rattle.component_split.specs.Graph.{SiteGraph, Labels, inside, is_open}
+use Rattle.component_split.specs.Graph.{Labels, inside, is_open}
 use Rattle.component_split.specs.Split.{open_sites}
 use Rattle.component_split.specs.Over.{site_graph, reached_from}
 use Rattle.component_split.specs.States.{none_decided}

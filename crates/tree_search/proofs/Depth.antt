@@ -1,23 +1,20 @@
 -- A tree is no deeper than twice its open sites and two, so the tree of a search is that of a certificate.
-use Rattle.std.proofs.Common.{◌≡◌, ℕ, zero, suc, ◌+◌, ◌*◌, ◌<◌, ◌≤◌, max, refl, sym, ap, ◌∙◌, subst, arith, Bool, true, false, ◌&&◌, ◌||◌, nat_eq, nat_le, eq-eqb, List, [], ◌∷◌, length, map, Option, Some, None}
-use Rattle.std.specs.List.{filter}
+use Rattle.std.proofs.Common.{◌≡◌, ℕ, suc, ◌+◌, ◌*◌, ◌<◌, ◌≤◌, refl, sym, ap, ◌∙◌, arith, Bool, true, false, ◌||◌, nat_eq, nat_le, eq-eqb, List, [], ◌∷◌, length, map}
 use Rattle.std.proofs.lemmas.List.{length-map}
-use Rattle.std.proofs.lemmas.Bool.{and_parts, and_from, eqb-true, eqb-false, false≢true, true≢false, ltb-true, le-ltb}
+use Rattle.std.proofs.lemmas.Bool.{and_parts, and_from, eqb-true, eqb-false, true≢false, ltb-true, le-ltb}
 use Rattle.std.proofs.lemmas.Bool.Decides.{nat_tests}
 use Rattle.oi_base.specs.declared.ids.FuncId.{FuncId}
-use Rattle.oi_base.specs.declared.ids.SiteId.{SiteId}
 use Rattle.decisions.specs.declared.maps.Label.{Label}
 use Rattle.decisions.specs.declared.maps.Label.TheVariants.{Keep, Inline}
 use Rattle.component_split.specs.Graph.{SiteGraph, Labels, Closed, Distinct, has, inside, joins, with_label}
 use Rattle.component_split.specs.Split.{lowest, component, roots, components, open_sites, Joined, here, forth, back}
 use Rattle.component_split.specs.Chosen.{chosen}
 use Rattle.component_split.specs.Tree.{is_decided, is_several}
-use Rattle.component_split.specs.Over.{func_numbers}
 use Rattle.component_split.proofs.Merge.{has_filter, has_component, distinct_roots, lowest_joins, distinct_filter}
 use Rattle.component_split.proofs.Chains.{same_class}
 use Rattle.component_split.proofs.Trees.{chosen_open}
 use Rattle.component_split.proofs.Grown.{label_smaller, component_open}
-use Rattle.inline_certificate.specs.Trees.{Tree, leaf, branch, cut, split, Parts, done, more, count_of, is_within, IsIn, AreIn, form_of}
+use Rattle.inline_certificate.specs.Trees.{Tree, leaf, branch, cut, split, Parts, done, more, count_of, IsIn, AreIn, form_of}
 use Rattle.size_measure.proofs.Sums.{has_head, has_tail}
 use Rattle.cert_checker.proofs.States.{label_closed, AllClosed, components_closed}
 use Rattle.tree_search.specs.Values.{depth, depth_of}
