@@ -2,3 +2,4 @@ pub mod States
 pub mod WorthBounds
 pub mod Whole
 pub mod LeastMaps
+pub mod Exact
