@@ -32,7 +32,7 @@ same_self : (a : Size) → same a a ≡ true
 same_self None = refl
 same_self (Some a) = eq-eqb a a refl
 
-at_most_is : (a b : Size) → at_most a b ≡ true → IsAtMost a b
+pub at_most_is : (a b : Size) → at_most a b ≡ true → IsAtMost a b
 at_most_is a None h = tt
 at_most_is None (Some b) h = absurd (false≢true h)
 at_most_is (Some a) (Some b) h = leb-true a b h

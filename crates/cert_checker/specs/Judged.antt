@@ -36,6 +36,7 @@ same None None = true
 same (Some a) (Some b) = nat_eq a b
 same _ _ = false
 
+-- a size is no more than another, where none is above every number
 abbrev pub at_most : Size → Size → Bool
 at_most a None = true
 at_most None (Some b) = false

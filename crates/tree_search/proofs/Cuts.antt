@@ -20,9 +20,11 @@ use Rattle.cert_checker.specs.Worth.{Worth}
 use Rattle.cert_checker.proofs.States.{label_closed, AllClosed, components_closed}
 use Rattle.cert_checker.proofs.WorthBounds.{at_most_trans, worth_bound}
 use Rattle.tree_search.specs.Values.{value, visits, visits_of, takes_inline, pick, picks}
-use Rattle.tree_search.specs.Search.{Rules, IsTree, AreTrees, at_most, rules, rules_without_cuts}
+use Rattle.tree_search.specs.Search.{Rules, IsTree, AreTrees, rules, rules_without_cuts}
 use Rattle.tree_search.proofs.Picked.{picked}
-use Rattle.tree_search.proofs.Worths.{tree_worth, whole_worth, at_most_is, bound_is, no_cut}
+use Rattle.cert_checker.specs.Judged.{at_most}
+use Rattle.cert_checker.proofs.Exact.{at_most_is}
+use Rattle.tree_search.proofs.Worths.{tree_worth, whole_worth, bound_is, no_cut}
 
 -- ---- no more nodes than the tree that is counted
 

@@ -1,7 +1,7 @@
 -- The tree of the search is worth its value.
 use Rattle.std.proofs.Common.{◌≡◌, ℕ, ◌<◌, refl, sym, ap, ◌∙◌, subst, Bool, true, false, List, [], ◌∷◌, length, Some, None}
 use Rattle.std.proofs.lemmas.List.{length-map}
-use Rattle.std.proofs.lemmas.Bool.{false≢true, ltb-true, leb-true}
+use Rattle.std.proofs.lemmas.Bool.{false≢true, ltb-true}
 use Rattle.oi_base.specs.declared.ids.FuncId.{FuncId}
 use Rattle.ir_core.specs.declared.module.Module.{Module}
 use Rattle.call_graph.specs.Graph.{Graph}
@@ -18,17 +18,14 @@ use Rattle.size_measure.specs.Sizes.{Size, IsAtMost, part}
 use Rattle.size_measure.specs.Low.{low}
 use Rattle.cert_checker.specs.Worth.{Worth, Worths}
 use Rattle.cert_checker.proofs.States.{label_closed, AllClosed, components_closed}
+use Rattle.cert_checker.specs.Judged.{at_most}
+use Rattle.cert_checker.proofs.Exact.{at_most_is}
 use Rattle.tree_search.specs.Values.{value, values}
-use Rattle.tree_search.specs.Search.{Rules, IsTree, AreTrees, at_most, bound_if, rules, rules_without_cuts}
+use Rattle.tree_search.specs.Search.{Rules, IsTree, AreTrees, bound_if, rules, rules_without_cuts}
 
 empty_is : (xs : List ℕ) → is_empty xs ≡ true → xs ≡ []
 empty_is [] h = refl
 empty_is (x ∷ xs) h = absurd (false≢true h)
-
-pub at_most_is : (a b : Size) → at_most a b ≡ true → IsAtMost a b
-at_most_is a None h = tt
-at_most_is None (Some b) h = absurd (false≢true h)
-at_most_is (Some a) (Some b) h = leb-true a b h
 
 pub bound_is : (c d : Bool) (x b : Size) → bound_if c d x ≡ Some b → (b ≡ x) × (d ≡ true)
 bound_is true d x b h = absurd cc

@@ -1,5 +1,5 @@
 -- The tree of the search with its values and cuts.
-use Rattle.std.specs.Prelude.{◌≡◌, ℕ, Bool, true, false, nat_le, List, [], ◌∷◌, Option, Some, None}
+use Rattle.std.specs.Prelude.{◌≡◌, ℕ, Bool, true, false, List, [], ◌∷◌, Option, Some, None}
 use Rattle.ir_core.specs.declared.module.Module.{Module}
 use Rattle.call_graph.specs.Graph.{Graph}
 use Rattle.decisions.specs.declared.maps.Label.TheVariants.{Keep, Inline}
@@ -13,6 +13,7 @@ use Rattle.inline_certificate.specs.Trees.{Tree, leaf, branch, cut, split, Parts
 use Rattle.size_measure.specs.Maps.{filled}
 use Rattle.size_measure.specs.Sizes.{Size, part}
 use Rattle.size_measure.specs.Low.{low}
+use Rattle.cert_checker.specs.Judged.{at_most}
 use Rattle.tree_search.specs.Values.{value}
 
 -- what a leaf states, and by which bound an inline child is left out, given the keep child's value
@@ -40,12 +41,6 @@ abbrev mutual
   AreTrees g r p (c ∷ cs) (more t ts) = IsTree g r p c t × AreTrees g r p cs ts
 
 -- ---- the rules of the search
-
--- a size is no more than another, where none is above every number
-abbrev pub at_most : Size → Size → Bool
-at_most a None = true
-at_most None (Some b) = false
-at_most (Some a) (Some b) = nat_le a b
 
 abbrev pub bound_if : Bool → Bool → Size → Option Size
 bound_if true small b = None
