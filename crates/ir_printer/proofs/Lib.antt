@@ -44,3 +44,4 @@ mod ReadBack
 mod FunctionsReprinted
 mod EntitiesPrinted
 mod EntitiesReread
+pub mod SiteCounts

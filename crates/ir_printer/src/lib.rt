@@ -16,7 +16,7 @@ mod types;
 mod words;
 
 pub use demands::{Demand, Demands, Known, Span};
-pub use laws::a_text_has_the_tokens_of_its_marks;
+pub use laws::{a_text_has_the_tokens_of_its_marks, places_change_no_count_of_sites};
 pub use marks::{Mark, Sheet, Sign};
 pub use order::Kind;
 pub use printing::print_module;
